@@ -1,0 +1,19 @@
+//! What every crate stands on: places in a source, the codes of refusals, and the desk through
+//! which the generator reads sources and writes tests.
+//!
+//! The trait [`Desk`] says in its clauses all that the layers above may rely on. [`MemDesk`] and
+//! [`CalmDesk`] keep files and outputs in memory. The desk over real files is the program's.
+#![tactic(auto)]
+
+mod desk;
+mod place;
+
+pub use desk::{Desk, DeskFault, Out};
+pub use place::{Code, Refusal, Span};
+use sqlite_items::Items;
+
+/// A list of truth values.
+pub type Truths = Items<bool>;
+
+/// A list of numbers, as those of statements.
+pub type Numbers = Items<u32>;
