@@ -1,0 +1,18 @@
+//! What programs, tests and verdicts mean: the definitions of `specs/`, and the types that they
+//! speak of.
+//!
+//! - `Run`: runs of a program on an input, as a relation;
+//! - `Steady`, `Good`: inputs whose runs agree, and inputs good for a statement;
+//! - `RightVerdicts`, `Chosen`: which verdicts are right, and how tests are chosen;
+//! - `Holds`, `Tight`: what a test promises.
+//!
+//! Nothing here says how an answer is found.
+#![tactic(auto)]
+
+mod outcome;
+mod test;
+mod verdict;
+
+pub use outcome::{Outcome, Shape, outcome_shape};
+pub use test::{Expected, Nibble, Nibbles, Test};
+pub use verdict::Verdict;
