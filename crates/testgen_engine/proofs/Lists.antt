@@ -1,0 +1,16 @@
+-- Lemmas on lists and texts.
+use Rattle.std.proofs.Common.{◌≡◌, ℕ, ◌-◌, ◌<◌, ◌≤◌, List, [], ◌∷◌, ◌++◌, length, get_or, take, drop, refl, ap, sym, ◌∙◌, arith, length-drop}
+use Rattle.std.proofs.lemmas.List.{take-append-drop, take_all}
+
+-- a list of two is its first and its second item
+pub two_items : {X : Type 0} (xs : List X) (a b : X) → 2 ≤ length xs → length xs < 3 → a ≡ get_or xs 0 a → b ≡ get_or xs 1 b → xs ≡ a ∷ b ∷ []
+two_items [] a b low high e f = absurd (omega arith)
+two_items (x ∷ []) a b low high e f = absurd (omega arith)
+two_items (x ∷ y ∷ []) a b low high e f = let p : a ≡ x = e in let q : b ≡ y = f in cc
+two_items (x ∷ y ∷ z ∷ xs) a b low high e f = absurd (omega arith)
+
+-- a list is its first items, and then the others
+pub take-rest : {X : Type 0} (xs : List X) (count : ℕ) → count ≤ length xs → take count xs ++ take (length xs - count) (drop count xs) ≡ xs
+take-rest xs count h =
+    let all : take (length xs - count) (drop count xs) ≡ drop count xs = take_all (length xs - count) (drop count xs) (omega (arith, length-drop count xs)) in
+    ap (λ ys. take count xs ++ ys) all ∙ take-append-drop count xs

@@ -1,0 +1,74 @@
+-- Lemmas on what calls add to outputs.
+use Rattle.std.proofs.Common.{◌≡◌, ◌≢◌, ℕ, Bool, true, false, cond, if◌then◌else◌, List, [], ◌∷◌, ◌++◌, Option, None, Some, refl, ap, sym, ◌∙◌, subst, append_assoc, rules, arith}
+use Rattle.std.proofs.lemmas.Bool.{eqb-true, eq-eqb, false≢true}
+use Rattle.tg_base.specs.declared.desk.Out.{Out}
+use Rattle.tg_base.specs.declared.desk.Out.TheVariants.{Report, Proofs, Test, Notes}
+use Rattle.tg_base.specs.Content.{with_piece}
+use Rattle.testgen_engine.specs.Outputs.{is_same, only, Adds, AddsFront, AddsFronts}
+
+pub with_piece-twice : (o : Option (List ℕ)) (a b : List ℕ) → with_piece (with_piece o a) b ≡ with_piece o (a ++ b)
+with_piece-twice None a b = refl
+with_piece-twice (Some bytes) a b = ap Some (append_assoc bytes a b)
+
+pub with_piece-nil : (o : Option (List ℕ)) → with_piece o [] ≡ o
+with_piece-nil None = refl
+with_piece-nil (Some bytes) = ap Some (search rules)
+
+-- what one write and then another add
+pub adds_both : (first second third : Out → Option (List ℕ)) (a b : Out → List ℕ) → Adds first second a → Adds second third b → Adds first third (λ out. a out ++ b out)
+adds_both first second third a b h k = λ out. k out ∙ ap (λ o. with_piece o (b out)) (h out) ∙ with_piece-twice (first out) (a out) (b out)
+
+-- outputs that stay have nothing added
+pub adds_nothing : (old new : Out → Option (List ℕ)) → ((out : Out) → new out ≡ old out) → Adds old new (λ out. [])
+adds_nothing old new h = λ out. h out ∙ sym (with_piece-nil (old out))
+
+-- outputs that are compared are one just where the test says so
+pub same-is_same : (a b : Out) → is_same a b ≡ true → a ≡ b
+same-is_same Report Report h = refl
+same-is_same Proofs Proofs h = refl
+same-is_same (Test m) (Test n) h = ap Test (eqb-true m n h)
+same-is_same Notes Notes h = refl
+same-is_same Report Proofs h = cc
+same-is_same Report (Test n) h = cc
+same-is_same Report Notes h = cc
+same-is_same Proofs Report h = cc
+same-is_same Proofs (Test n) h = cc
+same-is_same Proofs Notes h = cc
+same-is_same (Test m) Report h = cc
+same-is_same (Test m) Proofs h = cc
+same-is_same (Test m) Notes h = cc
+same-is_same Notes Report h = cc
+same-is_same Notes Proofs h = cc
+same-is_same Notes (Test n) h = cc
+
+pub is_same-same : (a : Out) → is_same a a ≡ true
+is_same-same Report = refl
+is_same-same Proofs = refl
+is_same-same (Test n) = eq-eqb n n refl
+is_same-same Notes = refl
+
+-- one write adds its piece to its output alone
+pub adds_piece : (old new : Out → Option (List ℕ)) (out : Out) (piece : List ℕ) → new out ≡ with_piece (old out) piece
+    → ((other : Out) → other ≢ out → new other ≡ old other) → Adds old new (only out piece)
+adds_piece old new out piece at others = λ other.
+    elim (is_same out other) as (λ b. is_same out other ≡ b → new other ≡ with_piece (old other) (if b then piece else [])) [
+      true ↦ λ h. subst (λ o. new o ≡ with_piece (old o) piece) (same-is_same out other h) at
+    | false ↦ λ h. others other (λ e. false≢true (sym h ∙ subst (λ o. is_same o other ≡ true) e (is_same-same other))) ∙ sym (with_piece-nil (old other))
+    ] refl
+
+-- a text in two parts
+pub only-append : (out other : Out) (a b : List ℕ) → only out a other ++ only out b other ≡ only out (a ++ b) other
+only-append out other a b =
+    elim (is_same out other) as (λ t. (if t then a else []) ++ (if t then b else []) ≡ (if t then a ++ b else [])) [ true ↦ refl | false ↦ refl ]
+
+-- a text that is equal is added as well
+pub adds_equal : (old new : Out → Option (List ℕ)) (a b : Out → List ℕ) → ((out : Out) → a out ≡ b out) → Adds old new a → Adds old new b
+adds_equal old new a b e h = λ out. h out ∙ ap (with_piece (old out)) (e out)
+
+-- one more piece of a text for one output
+pub adds_more : (first second third : Out → Option (List ℕ)) (out : Out) (front piece : List ℕ) → Adds first second (only out front)
+    → third out ≡ with_piece (second out) piece → ((other : Out) → other ≢ out → third other ≡ second other)
+    → Adds first third (only out (front ++ piece))
+adds_more first second third out front piece h at others =
+    adds_equal first third _ _ (λ other. only-append out other front piece)
+      (adds_both first second third _ _ h (adds_piece second third out piece at others))

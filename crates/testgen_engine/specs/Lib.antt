@@ -1,0 +1,10 @@
+pub mod Endings
+pub mod Findings
+pub mod Log
+pub mod Notes
+pub mod Outputs
+pub mod Report
+pub mod Skeleton
+pub mod Source
+pub mod TestText
+pub mod Words

@@ -1,0 +1,106 @@
+-- The report: the bounds, a line for each statement, a line for each undecided nibble, and the counts.
+use Rattle.std.specs.Prelude.{ℕ, ◌+◌, Bool, true, false, List, [], ◌∷◌, ◌++◌, length, codes, count_by, if◌then◌else◌}
+use Prim.Native.Nat.{suc}
+use Rattle.std.specs.Fmt.{decimal}
+use Rattle.tg_base.specs.declared.place.Span.{Span}
+use Rattle.p4_program.specs.declared.bounds.Bounds.{Bounds}
+use Rattle.p4_program.specs.declared.program.Program.{Program}
+use Rattle.p4_program.specs.declared.program.Statement.{Statement}
+use Rattle.p4_meaning.specs.declared.test.Expected.{Expected}
+use Rattle.p4_meaning.specs.declared.test.Expected.TheVariants.{Drop, Packet}
+use Rattle.p4_meaning.specs.declared.test.Nibble.{Nibble}
+use Rattle.p4_meaning.specs.declared.test.Nibble.TheVariants as nibble
+use Rattle.p4_meaning.specs.declared.test.Test.{Test}
+use Rattle.p4_meaning.specs.declared.verdict.Verdict.{Verdict}
+use Rattle.p4_meaning.specs.declared.verdict.Verdict.TheVariants.{Covered, Unreachable, Unsteady, Undecided}
+
+-- `bounds bytes L steps K entries E budget B`
+abbrev pub bounds_line : Bounds → List ℕ
+bounds_line b = codes "bounds bytes " ++ decimal b.bytes ++ codes " steps " ++ decimal b.steps
+    ++ codes " entries " ++ decimal b.entries ++ codes " budget " ++ decimal b.budget ++ codes "\n"
+
+abbrev pub verdict_text : Verdict → List ℕ
+verdict_text (Covered test) = codes "covered " ++ decimal test
+verdict_text Unreachable = codes "unreachable"
+verdict_text Unsteady = codes "unsteady"
+verdict_text Undecided = codes "undecided"
+
+-- `N LINE:COLUMN VERDICT`
+abbrev pub statement_line : ℕ → Span → Verdict → List ℕ
+statement_line number place verdict = decimal number ++ codes " " ++ decimal place.line ++ codes ":"
+    ++ decimal place.column ++ codes " " ++ verdict_text verdict ++ codes "\n"
+
+-- the lines of statements and their verdicts, the first statement having this number
+abbrev pub statement_lines : ℕ → List Statement → List Verdict → List ℕ
+statement_lines number [] verdicts = []
+statement_lines number (statement ∷ statements) [] = []
+statement_lines number (statement ∷ statements) (verdict ∷ verdicts) =
+    statement_line number statement.place verdict ++ statement_lines (suc number) statements verdicts
+
+abbrev pub is_undecided : Nibble → Bool
+is_undecided (nibble.Fixed digit) = false
+is_undecided nibble.Masked = false
+is_undecided nibble.Undecided = true
+
+-- `test T nibble I undecided`
+abbrev pub nibble_line : ℕ → ℕ → List ℕ
+nibble_line test place = codes "test " ++ decimal test ++ codes " nibble " ++ decimal place ++ codes " undecided\n"
+
+-- the lines of a test's undecided nibbles, the first nibble having this place
+abbrev pub nibble_lines : ℕ → ℕ → List Nibble → List ℕ
+nibble_lines test place [] = []
+nibble_lines test place (n ∷ nibbles) =
+    (if is_undecided n then nibble_line test place else []) ++ nibble_lines test (suc place) nibbles
+
+-- what is expected of the nibbles of a packet, and nothing where none is expected
+abbrev pub nibbles_of : Expected → List Nibble
+nibbles_of Drop = []
+nibbles_of (Packet port nibbles) = nibbles
+
+-- the lines of the tests' undecided nibbles, the first test having this number
+abbrev pub undecided_lines : ℕ → List Test → List ℕ
+undecided_lines number [] = []
+undecided_lines number (test ∷ tests) = nibble_lines number 0 (nibbles_of test.expected) ++ undecided_lines (suc number) tests
+
+-- how many nibbles of the tests are undecided
+abbrev pub undecided_nibbles : List Test → ℕ
+undecided_nibbles [] = 0
+undecided_nibbles (test ∷ tests) = count_by is_undecided (nibbles_of test.expected) + undecided_nibbles tests
+
+abbrev pub is_covered : Verdict → Bool
+is_covered (Covered test) = true
+is_covered Unreachable = false
+is_covered Unsteady = false
+is_covered Undecided = false
+
+abbrev pub is_unreachable : Verdict → Bool
+is_unreachable (Covered test) = false
+is_unreachable Unreachable = true
+is_unreachable Unsteady = false
+is_unreachable Undecided = false
+
+abbrev pub is_unsteady : Verdict → Bool
+is_unsteady (Covered test) = false
+is_unsteady Unreachable = false
+is_unsteady Unsteady = true
+is_unsteady Undecided = false
+
+abbrev pub is_unsearched : Verdict → Bool
+is_unsearched (Covered test) = false
+is_unsearched Unreachable = false
+is_unsearched Unsteady = false
+is_unsearched Undecided = true
+
+-- `statements S covered C unreachable U unsteady Y undecided D tests T nibbles X`
+abbrev pub counts_line : List Verdict → List Test → List ℕ
+counts_line verdicts tests = codes "statements " ++ decimal (length verdicts)
+    ++ codes " covered " ++ decimal (count_by is_covered verdicts)
+    ++ codes " unreachable " ++ decimal (count_by is_unreachable verdicts)
+    ++ codes " unsteady " ++ decimal (count_by is_unsteady verdicts)
+    ++ codes " undecided " ++ decimal (count_by is_unsearched verdicts)
+    ++ codes " tests " ++ decimal (length tests)
+    ++ codes " nibbles " ++ decimal (undecided_nibbles tests) ++ codes "\n"
+
+abbrev pub report_text : Bounds → Program → List Verdict → List Test → List ℕ
+report_text b p verdicts tests = bounds_line b ++ statement_lines 1 p.statements verdicts
+    ++ undecided_lines 1 tests ++ counts_line verdicts tests
