@@ -14,3 +14,8 @@ pub take-rest : {X : Type 0} (xs : List X) (count : ℕ) → count ≤ length xs
 take-rest xs count h =
     let all : take (length xs - count) (drop count xs) ≡ drop count xs = take_all (length xs - count) (drop count xs) (omega (arith, length-drop count xs)) in
     ap (λ ys. take count xs ++ ys) all ∙ take-append-drop count xs
+
+-- what follows one front is determined
+pub append_left_injective : {X : Type 0} (front xs ys : List X) → front ++ xs ≡ front ++ ys → xs ≡ ys
+append_left_injective [] xs ys e = e
+append_left_injective (x ∷ front) xs ys e = append_left_injective front xs ys (let h : x ∷ (front ++ xs) ≡ x ∷ (front ++ ys) = e in cc)

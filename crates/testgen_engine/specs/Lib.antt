@@ -1,5 +1,6 @@
 pub mod Endings
 pub mod Findings
+pub mod Lines
 pub mod Log
 pub mod Notes
 pub mod Outputs

@@ -13,5 +13,6 @@
 #![tactic(auto)]
 
 mod output;
+mod skeleton;
 mod source;
 mod words;
