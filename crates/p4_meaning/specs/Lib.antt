@@ -4,4 +4,5 @@ pub mod Good
 pub mod Outcome
 pub mod Run
 pub mod Test
+pub mod VerdictText
 pub mod Verdicts

@@ -1,4 +1,8 @@
 //! What is said of a statement.
+ghost use Rattle.std.specs.Prelude.{Some};
+ghost use Rattle.p4_meaning.specs.VerdictText.{verdict_text};
+
+use std::fmt;
 
 /// What is said of a statement.
 #[derive(Clone, Copy, Debug, PartialEq, Eq)]
@@ -11,4 +15,17 @@ pub enum Verdict {
     Unsteady,
     /// Its budget was spent; nothing is said.
     Undecided,
+}
+
+impl fmt::Display for Verdict {
+    ghost output = { λ verdict. Some (verdict_text verdict) };
+
+    fn fmt<W: fmt::Write>(&self, f: &mut fmt::Formatter<W>) -> fmt::Result {
+        match self {
+            Verdict::Covered(test) => write!(f, "covered {test}"),
+            Verdict::Unreachable => write!(f, "unreachable"),
+            Verdict::Unsteady => write!(f, "unsteady"),
+            Verdict::Undecided => write!(f, "undecided"),
+        }
+    }
 }

@@ -1,5 +1,5 @@
 -- Lemmas on lists and texts.
-use Rattle.std.proofs.Common.{◌≡◌, ℕ, ◌-◌, ◌<◌, ◌≤◌, List, [], ◌∷◌, ◌++◌, length, get_or, take, drop, refl, ap, sym, ◌∙◌, arith, length-drop}
+use Rattle.std.proofs.Common.{◌≡◌, ℕ, ◌-◌, ◌<◌, ◌≤◌, List, [], ◌∷◌, ◌++◌, length, get_or, take, drop, refl, ap, sym, ◌∙◌, arith, length-drop, append_assoc}
 use Rattle.std.proofs.lemmas.List.{take-append-drop, take_all}
 
 -- a list of two is its first and its second item
@@ -19,3 +19,12 @@ take-rest xs count h =
 pub append_left_injective : {X : Type 0} (front xs ys : List X) → front ++ xs ≡ front ++ ys → xs ≡ ys
 append_left_injective [] xs ys e = e
 append_left_injective (x ∷ front) xs ys e = append_left_injective front xs ys (let h : x ∷ (front ++ xs) ≡ x ∷ (front ++ ys) = e in cc)
+
+-- four texts, each added behind the one before
+pub join_four : (start first second third fourth a b c d : List ℕ) → start ≡ [] → first ≡ start ++ a → second ≡ first ++ b → third ≡ second ++ c → fourth ≡ third ++ d
+    → fourth ≡ a ++ (b ++ (c ++ d))
+join_four start first second third fourth a b c d none one two three four =
+    let e1 : first ≡ a = one ∙ ap (λ xs. xs ++ a) none in
+    let e2 : second ≡ a ++ b = two ∙ ap (λ xs. xs ++ b) e1 in
+    let e3 : third ≡ a ++ (b ++ c) = three ∙ ap (λ xs. xs ++ c) e2 ∙ append_assoc a b c in
+    four ∙ ap (λ xs. xs ++ d) e3 ∙ append_assoc a (b ++ c) d ∙ ap (λ xs. a ++ xs) (append_assoc b c d)

@@ -1,6 +1,7 @@
 -- What a person is told of wrong words, a refusal or a fault.
-use Rattle.std.specs.Prelude.{ℕ, List, ◌++◌, codes}
+use Rattle.std.specs.Prelude.{ℕ, List, [], ◌∷◌, codes}
 use Rattle.std.specs.Fmt.{decimal}
+use Rattle.std.specs.List.{concat}
 use Rattle.tg_base.specs.declared.place.Refusal.{Refusal}
 use Rattle.tg_base.specs.Code.{number_of, name_of}
 
@@ -12,5 +13,5 @@ read_fault_note = codes "read fault\n"
 
 -- the number, the name and the place of a refusal
 abbrev pub refusal_note : Refusal → List ℕ
-refusal_note r = codes "refused " ++ decimal (number_of r.code) ++ codes " " ++ name_of r.code
-    ++ codes " at " ++ decimal r.line ++ codes ":" ++ decimal r.column ++ codes "\n"
+refusal_note r = concat (codes "refused " ∷ decimal (number_of r.code) ∷ codes " " ∷ name_of r.code
+    ∷ codes " at " ∷ decimal r.line ∷ codes ":" ∷ decimal r.column ∷ codes "\n" ∷ [])

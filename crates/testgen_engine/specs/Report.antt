@@ -2,6 +2,7 @@
 use Rattle.std.specs.Prelude.{ℕ, ◌+◌, Bool, true, false, List, [], ◌∷◌, ◌++◌, length, codes, count_by, if◌then◌else◌}
 use Prim.Native.Nat.{suc}
 use Rattle.std.specs.Fmt.{decimal}
+use Rattle.std.specs.List.{concat}
 use Rattle.tg_base.specs.declared.place.Span.{Span}
 use Rattle.p4_program.specs.declared.bounds.Bounds.{Bounds}
 use Rattle.p4_program.specs.declared.program.Program.{Program}
@@ -11,24 +12,20 @@ use Rattle.p4_meaning.specs.declared.test.Expected.TheVariants.{Drop, Packet}
 use Rattle.p4_meaning.specs.declared.test.Nibble.{Nibble}
 use Rattle.p4_meaning.specs.declared.test.Nibble.TheVariants as nibble
 use Rattle.p4_meaning.specs.declared.test.Test.{Test}
+use Rattle.testgen_engine.specs.declared.report.Counts.{Counts}
+use Rattle.p4_meaning.specs.VerdictText.{verdict_text}
 use Rattle.p4_meaning.specs.declared.verdict.Verdict.{Verdict}
 use Rattle.p4_meaning.specs.declared.verdict.Verdict.TheVariants.{Covered, Unreachable, Unsteady, Undecided}
 
 -- `bounds bytes L steps K entries E budget B`
 abbrev pub bounds_line : Bounds → List ℕ
-bounds_line b = codes "bounds bytes " ++ decimal b.bytes ++ codes " steps " ++ decimal b.steps
-    ++ codes " entries " ++ decimal b.entries ++ codes " budget " ++ decimal b.budget ++ codes "\n"
-
-abbrev pub verdict_text : Verdict → List ℕ
-verdict_text (Covered test) = codes "covered " ++ decimal test
-verdict_text Unreachable = codes "unreachable"
-verdict_text Unsteady = codes "unsteady"
-verdict_text Undecided = codes "undecided"
+bounds_line b = concat (codes "bounds bytes " ∷ decimal b.bytes ∷ codes " steps " ∷ decimal b.steps
+    ∷ codes " entries " ∷ decimal b.entries ∷ codes " budget " ∷ decimal b.budget ∷ codes "\n" ∷ [])
 
 -- `N LINE:COLUMN VERDICT`
 abbrev pub statement_line : ℕ → Span → Verdict → List ℕ
-statement_line number place verdict = decimal number ++ codes " " ++ decimal place.line ++ codes ":"
-    ++ decimal place.column ++ codes " " ++ verdict_text verdict ++ codes "\n"
+statement_line number place verdict = concat (decimal number ∷ codes " " ∷ decimal place.line ∷ codes ":"
+    ∷ decimal place.column ∷ codes " " ∷ verdict_text verdict ∷ codes "\n" ∷ [])
 
 -- the lines of statements and their verdicts, the first statement having this number
 abbrev pub statement_lines : ℕ → List Statement → List Verdict → List ℕ
@@ -38,13 +35,12 @@ statement_lines number (statement ∷ statements) (verdict ∷ verdicts) =
     statement_line number statement.place verdict ++ statement_lines (suc number) statements verdicts
 
 abbrev pub is_undecided : Nibble → Bool
-is_undecided (nibble.Fixed digit) = false
-is_undecided nibble.Masked = false
 is_undecided nibble.Undecided = true
+is_undecided _ = false
 
 -- `test T nibble I undecided`
 abbrev pub nibble_line : ℕ → ℕ → List ℕ
-nibble_line test place = codes "test " ++ decimal test ++ codes " nibble " ++ decimal place ++ codes " undecided\n"
+nibble_line test place = concat (codes "test " ∷ decimal test ∷ codes " nibble " ∷ decimal place ∷ codes " undecided\n" ∷ [])
 
 -- the lines of a test's undecided nibbles, the first nibble having this place
 abbrev pub nibble_lines : ℕ → ℕ → List Nibble → List ℕ
@@ -69,38 +65,44 @@ undecided_nibbles (test ∷ tests) = count_by is_undecided (nibbles_of test.expe
 
 abbrev pub is_covered : Verdict → Bool
 is_covered (Covered test) = true
-is_covered Unreachable = false
-is_covered Unsteady = false
-is_covered Undecided = false
+is_covered _ = false
 
 abbrev pub is_unreachable : Verdict → Bool
-is_unreachable (Covered test) = false
 is_unreachable Unreachable = true
-is_unreachable Unsteady = false
-is_unreachable Undecided = false
+is_unreachable _ = false
 
 abbrev pub is_unsteady : Verdict → Bool
-is_unsteady (Covered test) = false
-is_unsteady Unreachable = false
 is_unsteady Unsteady = true
-is_unsteady Undecided = false
+is_unsteady _ = false
 
 abbrev pub is_unsearched : Verdict → Bool
-is_unsearched (Covered test) = false
-is_unsearched Unreachable = false
-is_unsearched Unsteady = false
 is_unsearched Undecided = true
+is_unsearched _ = false
 
--- `statements S covered C unreachable U unsteady Y undecided D tests T nibbles X`
-abbrev pub counts_line : List Verdict → List Test → List ℕ
-counts_line verdicts tests = codes "statements " ++ decimal (length verdicts)
-    ++ codes " covered " ++ decimal (count_by is_covered verdicts)
-    ++ codes " unreachable " ++ decimal (count_by is_unreachable verdicts)
-    ++ codes " unsteady " ++ decimal (count_by is_unsteady verdicts)
-    ++ codes " undecided " ++ decimal (count_by is_unsearched verdicts)
-    ++ codes " tests " ++ decimal (length tests)
-    ++ codes " nibbles " ++ decimal (undecided_nibbles tests) ++ codes "\n"
+-- what the last line counts
+abbrev pub counts_of : List Verdict → List Test → Counts
+counts_of verdicts tests = record {
+  statements = length verdicts;
+  covered = count_by is_covered verdicts;
+  unreachable = count_by is_unreachable verdicts;
+  unsteady = count_by is_unsteady verdicts;
+  undecided = count_by is_unsearched verdicts;
+  tests = length tests;
+  nibbles = undecided_nibbles tests
+}
+
+-- `statements S covered C unreachable U unsteady Y undecided D` and `tests T nibbles X`
+abbrev pub verdict_counts : Counts → List ℕ
+verdict_counts n = concat (codes "statements " ∷ decimal n.statements ∷ codes " covered " ∷ decimal n.covered
+    ∷ codes " unreachable " ∷ decimal n.unreachable ∷ codes " unsteady " ∷ decimal n.unsteady
+    ∷ codes " undecided " ∷ decimal n.undecided ∷ codes " " ∷ [])
+
+abbrev pub test_counts : Counts → List ℕ
+test_counts n = concat (codes "tests " ∷ decimal n.tests ∷ codes " nibbles " ∷ decimal n.nibbles ∷ codes "\n" ∷ [])
+
+abbrev pub counts_line : Counts → List ℕ
+counts_line n = verdict_counts n ++ test_counts n
 
 abbrev pub report_text : Bounds → Program → List Verdict → List Test → List ℕ
-report_text b p verdicts tests = bounds_line b ++ statement_lines 1 p.statements verdicts
-    ++ undecided_lines 1 tests ++ counts_line verdicts tests
+report_text b p verdicts tests =
+    bounds_line b ++ (statement_lines 1 p.statements verdicts ++ (undecided_lines 1 tests ++ counts_line (counts_of verdicts tests)))

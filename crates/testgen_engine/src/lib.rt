@@ -13,6 +13,7 @@
 #![tactic(auto)]
 
 mod output;
+mod report;
 mod skeleton;
 mod source;
 mod words;
