@@ -16,4 +16,5 @@ mod output;
 mod report;
 mod skeleton;
 mod source;
+mod test_text;
 mod words;
