@@ -28,3 +28,8 @@ join_four start first second third fourth a b c d none one two three four =
     let e2 : second ≡ a ++ b = two ∙ ap (λ xs. xs ++ b) e1 in
     let e3 : third ≡ a ++ (b ++ c) = three ∙ ap (λ xs. xs ++ c) e2 ∙ append_assoc a b c in
     four ∙ ap (λ xs. xs ++ d) e3 ∙ append_assoc a (b ++ c) d ∙ ap (λ xs. a ++ xs) (append_assoc b c d)
+
+-- a list that is not empty has an item
+pub some_item : {X : Type 0} (xs : List X) → (xs ≡ [] → ⊥) → 1 ≤ length xs
+some_item [] h = absurd (h refl)
+some_item (x ∷ xs) h = omega arith

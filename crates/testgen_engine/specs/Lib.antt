@@ -1,3 +1,4 @@
+pub mod Decide
 pub mod Endings
 pub mod Findings
 pub mod Lines

@@ -12,6 +12,7 @@
 //! - `output`: writing to a desk.
 #![tactic(auto)]
 
+mod decide;
 mod output;
 mod report;
 mod skeleton;
