@@ -1,5 +1,5 @@
 -- Lemmas on what calls add to outputs.
-use Rattle.std.proofs.Common.{◌≡◌, ◌≢◌, ℕ, Bool, true, false, cond, if◌then◌else◌, List, [], ◌∷◌, ◌++◌, Option, None, Some, refl, ap, sym, ◌∙◌, subst, append_assoc, rules, arith}
+use Rattle.std.proofs.Common.{◌≡◌, ◌≢◌, ℕ, Bool, true, false, cond, if◌then◌else◌, List, [], ◌∷◌, ◌++◌, Option, None, Some, refl, ap, sym, ◌∙◌, subst, append_assoc, rules, arith, Result, Ok, Err, OnErr}
 use Rattle.std.proofs.lemmas.Bool.{eqb-true, eq-eqb, false≢true}
 use Rattle.tg_base.specs.declared.desk.Out.{Out}
 use Rattle.tg_base.specs.declared.desk.Out.TheVariants.{Report, Proofs, Test, Notes}
@@ -72,3 +72,12 @@ pub adds_more : (first second third : Out → Option (List ℕ)) (out : Out) (fr
 adds_more first second third out front piece h at others =
     adds_equal first third _ _ (λ other. only-append out other front piece)
       (adds_both first second third _ _ h (adds_piece second third out piece at others))
+
+-- where nothing is written, fronts of any texts are
+pub adds_no_front : (old : Out → Option (List ℕ)) (text : Out → List ℕ) → AddsFronts old old text
+adds_no_front old text = λ out. record { front = []; rest = text out; whole = refl; added = sym (with_piece-nil (old out)) }
+
+-- a fact holds of an error where it holds
+pub on_err : {T E : Type 0} {P : Type 0} (r : Result T E) → P → OnErr r P
+on_err (Ok x) p = tt
+on_err (Err e) p = p

@@ -1,5 +1,6 @@
 -- How a call of the generator may end: its status, and the text that it adds to each output.
 use Rattle.std.specs.Prelude.{◌≡◌, ◌↔◌, ◌⊎◌, ℕ, ◌+◌, ◌≤◌, List, [], ◌∷◌, ◌++◌, Option, None, Some, take}
+use Rattle.tg_base.specs.Faults.{Rose}
 use Rattle.tg_base.specs.declared.desk.Out.{Out}
 use Rattle.tg_base.specs.declared.desk.Out.TheVariants.{Notes}
 use Rattle.tg_base.specs.declared.place.Code.TheVariants.{NotBuilt}
@@ -7,7 +8,7 @@ use Rattle.tg_base.specs.declared.place.Refusal.{Refusal}
 use Rattle.p4_program.specs.Bounds.{IsDefault}
 use Rattle.testgen_engine.specs.Findings.{Findings, AreRight, IsUndecided, text_of}
 use Rattle.testgen_engine.specs.Notes.{usage_note, read_fault_note, refusal_note}
-use Rattle.testgen_engine.specs.Outputs.{Adds, AddsFronts, only}
+use Rattle.testgen_engine.specs.Outputs.{AddsNothing, AddsTextFront, only}
 use Rattle.testgen_engine.specs.Skeleton.{StandsFor, IsNotBuilt}
 use Rattle.testgen_engine.specs.Words.{AsksGen, AsksNothing}
 
@@ -52,31 +53,27 @@ pub record Refuses (files : Option (List ℕ → Option (List ℕ))) (words : Li
   pub refused : IsNotBuilt bytes
   pub texts : (out : Out) → text out ≡ only Notes (refusal_note not_built) out
 
--- the source could not be read, and that is told
-pub record FailsToRead (words : List (List ℕ)) (status : ℕ) (text : Out → List ℕ) : Type 0 where
+-- an open or a read failed, as the desk has counted between these moments, and that is told
+pub record FailsToRead (words : List (List ℕ)) (before now : ℕ) (status : ℕ) (text : Out → List ℕ) : Type 0 where
   pub ended : status ≡ 4
   pub name : List ℕ
   pub asks : AsksGen words name
+  pub rose : Rose before now
   pub texts : (out : Out) → text out ≡ only Notes read_fault_note out
 
--- a call that no write fault or want of memory cuts short may end so
-abbrev pub Ends : Option (List ℕ → Option (List ℕ)) → List (List ℕ) → ℕ → (Out → List ℕ) → Type 0
-Ends files words status text =
+-- a call that no write fault or want of memory cuts short ends in one of these ways
+abbrev pub Ends : Option (List ℕ → Option (List ℕ)) → List (List ℕ) → ℕ → ℕ → ℕ → (Out → List ℕ) → Type 0
+Ends files words before now status text =
     Finishes files words status text ⊎ (Misspells words status text
-    ⊎ (Refuses files words status text ⊎ FailsToRead words status text))
+    ⊎ (Refuses files words status text ⊎ FailsToRead words before now status text))
 
--- it ended so, and each output has its text added
-pub record EndsAt (files : Option (List ℕ → Option (List ℕ))) (words : List (List ℕ)) (status : ℕ) (old new : Out → Option (List ℕ)) : Type 0 where
-  pub text : Out → List ℕ
-  pub ends : Ends files words status text
-  pub adds : Adds old new text
+-- some such end, with its status
+abbrev pub EndsSomehow : Option (List ℕ → Option (List ℕ)) → List (List ℕ) → ℕ → ℕ → (Out → List ℕ) → Type 0
+EndsSomehow files words before now text = (status : ℕ) × Ends files words before now status text
 
--- it was cut short on the way to some end, and each output has a front of its text added
-pub record IsCutShort (files : Option (List ℕ → Option (List ℕ))) (words : List (List ℕ)) (old new : Out → Option (List ℕ)) : Type 0 where
-  pub status : ℕ
-  pub text : Out → List ℕ
-  pub ends : Ends files words status text
-  pub adds : AddsFronts old new text
+-- a call that is cut short has added nothing, or fronts of the texts of some such end
+abbrev pub IsCutShort : Option (List ℕ → Option (List ℕ)) → List (List ℕ) → ℕ → ℕ → (Out → Option (List ℕ)) → (Out → Option (List ℕ)) → Type 0
+IsCutShort files words before now old new = AddsNothing old new ⊎ AddsTextFront old new (EndsSomehow files words before now)
 
 -- the names asked for are those of before, and then a front of these
 abbrev pub AsksFront : Option (List (List ℕ)) → Option (List (List ℕ)) → List (List ℕ) → Type 0

@@ -5,8 +5,10 @@ pub mod Lines
 pub mod Log
 pub mod Notes
 pub mod Outputs
+pub mod Printing
 pub mod Report
 pub mod Skeleton
 pub mod Source
+pub mod Status
 pub mod TestText
 pub mod Words

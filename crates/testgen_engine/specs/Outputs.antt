@@ -20,6 +20,12 @@ only out text other = if is_same out other then text else []
 abbrev pub Adds : (Out → Option (List ℕ)) → (Out → Option (List ℕ)) → (Out → List ℕ) → Type 0
 Adds old new text = (out : Out) → new out ≡ with_piece (old out) (text out)
 
+-- each output has a text added, and the texts are such
+pub record AddsText (old new : Out → Option (List ℕ)) (IsRight : (Out → List ℕ) → Type 0) : Type 0 where
+  pub text : Out → List ℕ
+  pub adds : Adds old new text
+  pub right : IsRight text
+
 -- an output has a front of its text added
 pub record AddsFront (old new : Option (List ℕ)) (text : List ℕ) : Type 0 where
   pub front : List ℕ
@@ -30,3 +36,13 @@ pub record AddsFront (old new : Option (List ℕ)) (text : List ℕ) : Type 0 wh
 -- each output has a front of its text added
 abbrev pub AddsFronts : (Out → Option (List ℕ)) → (Out → Option (List ℕ)) → (Out → List ℕ) → Type 0
 AddsFronts old new text = (out : Out) → AddsFront (old out) (new out) (text out)
+
+-- each output has a front added of a text, and the texts are such
+pub record AddsTextFront (old new : Out → Option (List ℕ)) (IsRight : (Out → List ℕ) → Type 0) : Type 0 where
+  pub text : Out → List ℕ
+  pub adds : AddsFronts old new text
+  pub right : IsRight text
+
+-- nothing is added
+abbrev pub AddsNothing : (Out → Option (List ℕ)) → (Out → Option (List ℕ)) → Type 0
+AddsNothing old new = (out : Out) → new out ≡ old out

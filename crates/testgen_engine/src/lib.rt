@@ -13,7 +13,9 @@
 #![tactic(auto)]
 
 mod decide;
+mod generate;
 mod output;
+mod print;
 mod report;
 mod skeleton;
 mod source;

@@ -2,7 +2,9 @@
 ghost use Rattle.std.specs.Prelude.{◌≡◌, ◌≤◌, OnOk, OnErr, IsErrOf};
 ghost use Rattle.tg_base.specs.Faults.{Rose};
 ghost use Rattle.testgen_engine.specs.Outputs.{Adds, AddsFronts, only};
+ghost use Rattle.testgen_engine.specs.declared.output.Stop.TheVariants.{Memory};
 
+use std::alloc::AllocError;
 use tg_base::{Desk, DeskFault, Out};
 
 /// Why a job ends before its work is done.
@@ -14,6 +16,14 @@ pub enum Stop {
     WriteFault,
     /// Memory ran out.
     Memory,
+}
+
+impl From<AllocError> for Stop {
+    ghost from_gives = { λ _ stop. stop ≡ Memory };
+
+    fn from(_error: AllocError) -> Stop {
+        Stop::Memory
+    }
 }
 
 /// Why a job stops where a write did not do its work.

@@ -1,0 +1,16 @@
+-- The texts of tests, one for the output of each.
+use Rattle.std.specs.Prelude.{ℕ, List, [], ◌∷◌, ◌++◌}
+use Prim.Native.Nat.{suc}
+use Rattle.tg_base.specs.declared.desk.Out.{Out}
+use Rattle.tg_base.specs.declared.desk.Out.TheVariants as out
+use Rattle.p4_meaning.specs.declared.test.Test.{Test}
+use Rattle.p4_meaning.specs.declared.verdict.Verdict.{Verdict}
+use Rattle.p4_meaning.specs.Verdicts.{credits}
+use Rattle.testgen_engine.specs.Outputs.{only}
+use Rattle.testgen_engine.specs.TestText.{test_text}
+
+-- what tests add to an output, the first of them having this number
+abbrev pub tests_text : List Verdict → ℕ → List Test → Out → List ℕ
+tests_text verdicts number [] o = []
+tests_text verdicts number (t ∷ tests) o =
+    only (out.Test number) (test_text number (credits verdicts number) t) o ++ tests_text verdicts (suc number) tests o

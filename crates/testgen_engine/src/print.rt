@@ -1,0 +1,53 @@
+//! Writing what was found: the tests, and then the report. The log has no record.
+ghost use Rattle.std.specs.Prelude.{◌≡◌, ◌≤◌, IfOk, OnOk, OnErr, IsErrOf, length};
+ghost use Rattle.tg_base.specs.declared.desk.Out.TheVariants as out;
+ghost use Rattle.tg_base.specs.Faults.{Rose};
+ghost use Rattle.p4_meaning.specs.Verdicts.{credits};
+ghost use Rattle.testgen_engine.specs.Decide.{findings};
+ghost use Rattle.testgen_engine.specs.Findings.{text_of};
+ghost use Rattle.testgen_engine.specs.Outputs.{Adds, AddsFronts, only};
+ghost use Rattle.testgen_engine.specs.Printing.{tests_text};
+ghost use Rattle.testgen_engine.specs.TestText.{test_text};
+
+use crate::decide::Decided;
+use crate::output::{Stop, write_all};
+use crate::report::write_report;
+use crate::test_text::write_test;
+use p4_meaning::{Test, Verdict};
+use p4_program::{Bounds, Program};
+use sqlite_items::Items;
+use std::alloc::{AllocError, Global};
+use tg_base::{Desk, Numbers, Out};
+
+/// The statements that are credited to a test.
+fn credits_of(alloc: Global, verdicts: &[Verdict], test: u32) -> Result<Numbers, AllocError>
+    requires { length verdicts.now ≤ 2000 }
+    ensures { IfOk result (λ numbers. numbers ≡ credits verdicts.now test) }
+{
+    let mut numbers = Items::new(alloc);
+    for (index, verdict) in verdicts.iter().enumerate() {
+        if *verdict == Verdict::Covered(test) {
+            numbers.push(index as u32 + 1)?;
+        }
+    }
+    Ok(numbers)
+}
+
+/// Writes one test.
+fn print_test<D: Desk>(alloc: Global, desk: &mut D, number: u32, verdicts: &[Verdict], test: &Test) -> Result<(), Stop>
+    requires { length verdicts.now ≤ 2000 }
+    ensures ok { OnOk result (Adds (D.written desk.old) (D.written desk.new) (only (out.Test number) (test_text number (credits verdicts.now number) test.now))) }
+    ensures err { OnErr result (AddsFronts (D.written desk.old) (D.written desk.new) (only (out.Test number) (test_text number (credits verdicts.now number) test.now))) }
+    ensures write_fault { IsErrOf result Stop.WriteFault → Rose (D.write_faults desk.old) (D.write_faults desk.new) }
+    ensures no_read_fault { IsErrOf result Stop.ReadFault → ⊥ }
+    ensures count { D.write_faults desk.old ≤ D.write_faults desk.new }
+
+    // What stays.
+    ensures files_stay { D.files desk.new ≡ D.files desk.old }
+    ensures asked_stays { D.asked desk.new ≡ D.asked desk.old }
+    ensures read_faults_stay { D.read_faults desk.new ≡ D.read_faults desk.old }
+{
+    let statements = credits_of(alloc, verdicts, number)?;
+    let text = write_test(alloc, number, statements.as_slice(), test)?;
+    write_all(desk, Out::Test(number), text.as_bytes())
+}
