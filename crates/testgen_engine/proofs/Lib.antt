@@ -4,5 +4,6 @@ pub mod Digits
 pub mod LineLemmas
 pub mod Lists
 pub mod OutputLemmas
+pub mod PrintLemmas
 pub mod RunLemmas
 pub mod SourceLemmas

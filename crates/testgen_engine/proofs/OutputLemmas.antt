@@ -1,5 +1,5 @@
 -- Lemmas on what calls add to outputs.
-use Rattle.std.proofs.Common.{◌≡◌, ◌≢◌, ℕ, Bool, true, false, cond, if◌then◌else◌, List, [], ◌∷◌, ◌++◌, Option, None, Some, refl, ap, sym, ◌∙◌, subst, append_assoc, rules, arith, Result, Ok, Err, OnErr}
+use Rattle.std.proofs.Common.{◌≡◌, ◌≢◌, ℕ, Bool, true, false, cond, if◌then◌else◌, List, [], ◌∷◌, ◌++◌, Option, None, Some, refl, ap, sym, ◌∙◌, subst, append_assoc, rules, arith, Result, Ok, Err, OnOk, OnErr, append-nil}
 use Rattle.std.proofs.lemmas.Bool.{eqb-true, eq-eqb, false≢true}
 use Rattle.tg_base.specs.declared.desk.Out.{Out}
 use Rattle.tg_base.specs.declared.desk.Out.TheVariants.{Report, Proofs, Test, Notes}
@@ -81,3 +81,42 @@ adds_no_front old text = λ out. record { front = []; rest = text out; whole = r
 pub on_err : {T E : Type 0} {P : Type 0} (r : Result T E) → P → OnErr r P
 on_err (Ok x) p = tt
 on_err (Err e) p = p
+
+-- what one call and then a front of another add
+pub fronts_after : (first second third : Out → Option (List ℕ)) (a b : Out → List ℕ) → Adds first second a → AddsFronts second third b → AddsFronts first third (λ out. a out ++ b out)
+fronts_after first second third a b h k = λ out.
+    let f = k out in
+    record {
+      front = a out ++ f.front;
+      rest = f.rest;
+      whole = ap (λ xs. a out ++ xs) f.whole ∙ sym (append_assoc (a out) f.front f.rest);
+      added = f.added ∙ ap (λ o. with_piece o f.front) (h out) ∙ with_piece-twice (first out) (a out) f.front;
+    }
+
+-- fronts of texts are fronts of what goes on
+pub fronts_more : (old new : Out → Option (List ℕ)) (a more all : Out → List ℕ) → AddsFronts old new a → ((out : Out) → a out ++ more out ≡ all out) → AddsFronts old new all
+fronts_more old new a more all h e = λ out.
+    let f = h out in
+    record {
+      front = f.front;
+      rest = f.rest ++ more out;
+      whole = sym (e out) ∙ ap (λ xs. xs ++ more out) f.whole ∙ append_assoc f.front f.rest (more out);
+      added = f.added;
+    }
+
+-- a whole text is a front of itself
+pub fronts_whole : (old new : Out → Option (List ℕ)) (a : Out → List ℕ) → Adds old new a → AddsFronts old new a
+fronts_whole old new a h = λ out. record { front = a out; rest = []; whole = sym (append-nil (a out)); added = h out }
+
+-- a fact under one outcome, made another
+pub on_ok_map : {T E : Type 0} {P Q : Type 0} (r : Result T E) → (P → Q) → OnOk r P → OnOk r Q
+on_ok_map (Ok x) f p = f p
+on_ok_map (Err e) f p = tt
+
+pub on_err_map : {T E : Type 0} {P Q : Type 0} (r : Result T E) → (P → Q) → OnErr r P → OnErr r Q
+on_err_map (Ok x) f p = tt
+on_err_map (Err e) f p = f p
+
+-- fronts of texts are fronts of equal texts
+pub fronts_equal : (old new : Out → Option (List ℕ)) (a b : Out → List ℕ) → ((out : Out) → a out ≡ b out) → AddsFronts old new a → AddsFronts old new b
+fronts_equal old new a b e h = λ out. let f = h out in record { front = f.front; rest = f.rest; whole = sym (e out) ∙ f.whole; added = f.added }

@@ -51,3 +51,45 @@ fn print_test<D: Desk>(alloc: Global, desk: &mut D, number: u32, verdicts: &[Ver
     let text = write_test(alloc, number, statements.as_slice(), test)?;
     write_all(desk, Out::Test(number), text.as_bytes())
 }
+
+/// Writes the tests, numbered from 1.
+fn print_tests<D: Desk>(alloc: Global, desk: &mut D, verdicts: &[Verdict], tests: &[Test]) -> Result<(), Stop>
+    requires verdicts { length verdicts.now ≤ 2000 }
+    requires tests { length tests.now ≤ 2000 }
+    ensures ok { OnOk result (Adds (D.written desk.old) (D.written desk.new) (tests_text verdicts.now 1 tests.now)) }
+    ensures err { OnErr result (AddsFronts (D.written desk.old) (D.written desk.new) (tests_text verdicts.now 1 tests.now)) }
+    ensures write_fault { IsErrOf result Stop.WriteFault → Rose (D.write_faults desk.old) (D.write_faults desk.new) }
+    ensures no_read_fault { IsErrOf result Stop.ReadFault → ⊥ }
+    ensures count { D.write_faults desk.old ≤ D.write_faults desk.new }
+
+    // What stays.
+    ensures files_stay { D.files desk.new ≡ D.files desk.old }
+    ensures asked_stays { D.asked desk.new ≡ D.asked desk.old }
+    ensures read_faults_stay { D.read_faults desk.new ≡ D.read_faults desk.old }
+{
+    for (index, test) in tests.iter().enumerate() {
+        print_test(alloc, desk, index as u32 + 1, verdicts, test)?;
+    }
+    Ok(())
+}
+
+/// Writes the tests, and then the report.
+pub fn print<D: Desk>(alloc: Global, desk: &mut D, bounds: Bounds, program: &Program, decided: &Decided) -> Result<(), Stop>
+    requires verdicts { length decided.now.verdicts ≡ length program.now.statements }
+    requires tests { length decided.now.tests ≤ 2000 }
+    ensures ok { OnOk result (Adds (D.written desk.old) (D.written desk.new) (text_of (findings bounds program.now decided.now))) }
+    ensures err { OnErr result (AddsFronts (D.written desk.old) (D.written desk.new) (text_of (findings bounds program.now decided.now))) }
+    ensures write_fault { IsErrOf result Stop.WriteFault → Rose (D.write_faults desk.old) (D.write_faults desk.new) }
+    ensures no_read_fault { IsErrOf result Stop.ReadFault → ⊥ }
+
+    // What stays.
+    ensures files_stay { D.files desk.new ≡ D.files desk.old }
+    ensures asked_stays { D.asked desk.new ≡ D.asked desk.old }
+    ensures read_faults_stay { D.read_faults desk.new ≡ D.read_faults desk.old }
+{
+    let verdicts = decided.verdicts.as_slice();
+    let tests = decided.tests.as_slice();
+    let report = write_report(alloc, bounds, program, verdicts, tests)?;
+    print_tests(alloc, desk, verdicts, tests)?;
+    write_all(desk, Out::Report, report.as_bytes())
+}
