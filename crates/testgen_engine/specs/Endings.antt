@@ -5,6 +5,7 @@ use Rattle.tg_base.specs.declared.desk.Out.{Out}
 use Rattle.tg_base.specs.declared.desk.Out.TheVariants.{Notes}
 use Rattle.tg_base.specs.declared.place.Code.TheVariants.{NotBuilt}
 use Rattle.tg_base.specs.declared.place.Refusal.{Refusal}
+use Rattle.p4_program.specs.declared.program.Program.{Program}
 use Rattle.p4_program.specs.Bounds.{IsDefault}
 use Rattle.testgen_engine.specs.Findings.{Findings, AreRight, IsUndecided, text_of}
 use Rattle.testgen_engine.specs.Notes.{usage_note, read_fault_note, refusal_note}
@@ -16,6 +17,16 @@ use Rattle.testgen_engine.specs.Words.{AsksGen, AsksNothing}
 abbrev pub HasFile : Option (List ℕ → Option (List ℕ)) → List ℕ → List ℕ → Type 0
 HasFile None name bytes = Unit {0}
 HasFile (Some files) name bytes = files name ≡ Some bytes
+
+-- The texts are those of what was found of this program under the default bounds, which is right, and of which
+-- nothing is undecided.
+pub record IsFound (p : Program) (text : Out → List ℕ) : Type 0 where
+  pub findings : Findings
+  pub program : findings.program ≡ p
+  pub bounds : IsDefault findings.bounds
+  pub right : AreRight findings
+  pub decided : IsUndecided findings → ⊥
+  pub texts : (out : Out) → text out ≡ text_of findings out
 
 -- The headline. The words ask for tests of a source, the named file's bytes stand for the program of what was
 -- found, what was found is right, and each output has its text added. Status 3 says that something is
@@ -79,3 +90,20 @@ IsCutShort files words before now old new = AddsNothing old new ⊎ AddsTextFron
 abbrev pub AsksFront : Option (List (List ℕ)) → Option (List (List ℕ)) → List (List ℕ) → Type 0
 AsksFront None new names = Unit {0}
 AsksFront (Some old) new names = (count : ℕ) × (new ≡ Some (old ++ take count names))
+
+-- Completeness. Where the words ask for tests of a source, the desk tells that the file is there and a source of a
+-- program, and no count of faults rose, the call finishes, or wants memory.
+abbrev pub Completes : Option (List ℕ → Option (List ℕ)) → List (List ℕ) → ℕ → ℕ → ℕ → ℕ → ℕ → Type 0
+Completes None words reads_before reads_now writes_before writes_now status = Unit {0}
+Completes (Some files) words reads_before reads_now writes_before writes_now status =
+    (name bytes : List ℕ) (p : Program) → AsksGen words name → files name ≡ Some bytes → StandsFor bytes p
+    → (Rose reads_before reads_now → ⊥) → (Rose writes_before writes_now → ⊥)
+    → (status ≡ 0) ⊎ ((status ≡ 3) ⊎ (status ≡ 6))
+
+-- And where the file is a source of no program, the call refuses it, or wants memory.
+abbrev pub RefusesWhole : Option (List ℕ → Option (List ℕ)) → List (List ℕ) → ℕ → ℕ → ℕ → ℕ → ℕ → Type 0
+RefusesWhole None words reads_before reads_now writes_before writes_now status = Unit {0}
+RefusesWhole (Some files) words reads_before reads_now writes_before writes_now status =
+    (name bytes : List ℕ) → AsksGen words name → files name ≡ Some bytes → IsNotBuilt bytes
+    → (Rose reads_before reads_now → ⊥) → (Rose writes_before writes_now → ⊥)
+    → (status ≡ 2) ⊎ (status ≡ 6)

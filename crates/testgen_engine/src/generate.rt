@@ -1,4 +1,23 @@
-//! The job of `gen`.
+//! The job of `gen`: from the name of a source to what is written.
+ghost use Rattle.std.specs.Prelude.{◌≡◌, ◌≤◌, ◌⊎◌, ℕ, List, [], ◌∷◌, Option, take, IfOk, OnOk, OnErr, IsErrOf, MatchResult, map, string_bytes};
+ghost use Rattle.tg_base.specs.declared.desk.Out.TheVariants as out;
+ghost use Rattle.tg_base.specs.Faults.{Rose};
+ghost use Rattle.testgen_engine.specs.Endings.{HasFile, AsksFront, IsFound, Ends, IsCutShort, not_built};
+ghost use Rattle.testgen_engine.specs.Notes.{usage_note, read_fault_note, refusal_note};
+ghost use Rattle.testgen_engine.specs.Outputs.{Adds, AddsFronts, AddsNothing, AddsText, AddsTextFront, only};
+ghost use Rattle.testgen_engine.specs.Status.{status_of};
+ghost use Rattle.testgen_engine.specs.Words.{AsksGen, AsksNothing};
+
+use crate::decide::decide;
+use crate::output::{Stop, write_all};
+use crate::print::print;
+use crate::skeleton::program_of;
+use crate::source::read_source;
+use crate::words::source_name;
+use p4_program::{Bounds, Program};
+use std::alloc::{AllocError, Global};
+use std::default::Default;
+use tg_base::{Code, Desk, Out, Refusal};
 
 /// How a job ended that was not cut short.
 #[derive(Clone, Copy, Debug, PartialEq, Eq)]
@@ -11,4 +30,159 @@ pub enum Status {
     Refused,
     /// The source could not be read.
     ReadFault,
+}
+
+impl Status {
+    /// The status of the process.
+    pub fn number(self) -> u8
+        ensures { result ≡ status_of self }
+    {
+        match self {
+            Status::Done => 0,
+            Status::WrongWords => 1,
+            Status::Refused => 2,
+            Status::ReadFault => 4,
+        }
+    }
+}
+
+/// The note of a refusal.
+fn write_refusal(alloc: Global, refusal: Refusal) -> Result<String, AllocError>
+    ensures { IfOk result (λ text. string_bytes text ≡ refusal_note refusal) }
+{
+    let number = refusal.code.number();
+    let name = refusal.code.name();
+    let Refusal { line, column, .. } = refusal;
+    format!(in alloc; "refused {number} {name} at {line}:{column}\n")
+}
+
+/// Tells that a source is not built.
+fn refuse<D: Desk>(alloc: Global, desk: &mut D) -> Result<Status, Stop>
+    ensures told { IfOk result (λ status. status ≡ Status.Refused) }
+    ensures ok { OnOk result (Adds (D.written desk.old) (D.written desk.new) (only out.Notes (refusal_note not_built))) }
+    ensures err { OnErr result (AddsFronts (D.written desk.old) (D.written desk.new) (only out.Notes (refusal_note not_built))) }
+    ensures write_fault { IsErrOf result Stop.WriteFault → Rose (D.write_faults desk.old) (D.write_faults desk.new) }
+    ensures no_read_fault { IsErrOf result Stop.ReadFault → ⊥ }
+
+    // What stays.
+    ensures files_stay { D.files desk.new ≡ D.files desk.old }
+    ensures asked_stays { D.asked desk.new ≡ D.asked desk.old }
+    ensures read_faults_stay { D.read_faults desk.new ≡ D.read_faults desk.old }
+{
+    let refusal = Refusal {
+        code: Code::NotBuilt,
+        line: 1,
+        column: 1,
+    };
+    let text = write_refusal(alloc, refusal)?;
+    write_all(desk, Out::Notes, text.as_bytes())?;
+    Ok(Status::Refused)
+}
+
+/// Decides a program's statements, and writes what was found.
+fn finish<D: Desk>(alloc: Global, desk: &mut D, program: &Program) -> Result<Status, Stop>
+    ensures told { IfOk result (λ status. status ≡ Status.Done) }
+    ensures ok { OnOk result (AddsText (D.written desk.old) (D.written desk.new) (IsFound program.now)) }
+    ensures err { OnErr result (AddsNothing (D.written desk.old) (D.written desk.new)
+        ⊎ AddsTextFront (D.written desk.old) (D.written desk.new) (IsFound program.now)) }
+    ensures write_fault { IsErrOf result Stop.WriteFault → Rose (D.write_faults desk.old) (D.write_faults desk.new) }
+    ensures no_read_fault { IsErrOf result Stop.ReadFault → ⊥ }
+
+    // What stays.
+    ensures files_stay { D.files desk.new ≡ D.files desk.old }
+    ensures asked_stays { D.asked desk.new ≡ D.asked desk.old }
+    ensures read_faults_stay { D.read_faults desk.new ≡ D.read_faults desk.old }
+{
+    let bounds = Bounds::default();
+    let decided = decide(alloc, bounds, program)?;
+    print(alloc, desk, bounds, program, &decided)?;
+    Ok(Status::Done)
+}
+
+/// Answers a source that was read, up to the most bytes that are taken of one.
+fn answer<D: Desk>(alloc: Global, desk: &mut D, source: &[u8]) -> Result<Status, Stop>
+    ensures ends { (files : Option (List ℕ → Option (List ℕ))) (words : List (List ℕ)) (name whole : List ℕ) (before now : ℕ)
+        → AsksGen words name → HasFile files name whole → source.now ≡ take 262145 whole
+        → MatchResult result (λ status. AddsText (D.written desk.old) (D.written desk.new) (Ends files words before now (status_of status)))
+            (λ _. IsCutShort files words before now (D.written desk.old) (D.written desk.new)) }
+    ensures write_fault { IsErrOf result Stop.WriteFault → Rose (D.write_faults desk.old) (D.write_faults desk.new) }
+    ensures no_read_fault { IsErrOf result Stop.ReadFault → ⊥ }
+
+    // What stays.
+    ensures files_stay { D.files desk.new ≡ D.files desk.old }
+    ensures asked_stays { D.asked desk.new ≡ D.asked desk.old }
+    ensures read_faults_stay { D.read_faults desk.new ≡ D.read_faults desk.old }
+{
+    match program_of(alloc, source)? {
+        Some(program) => finish(alloc, desk, &program),
+        None => refuse(alloc, desk),
+    }
+}
+
+/// Tells that the source could not be read.
+fn tell_fault<D: Desk>(desk: &mut D) -> Result<Status, Stop>
+    ensures told { IfOk result (λ status. status ≡ Status.ReadFault) }
+    ensures ok { OnOk result (Adds (D.written desk.old) (D.written desk.new) (only out.Notes read_fault_note)) }
+    ensures err { OnErr result (AddsFronts (D.written desk.old) (D.written desk.new) (only out.Notes read_fault_note)) }
+    ensures write_fault { IsErrOf result Stop.WriteFault → Rose (D.write_faults desk.old) (D.write_faults desk.new) }
+    ensures no_read_fault { IsErrOf result Stop.ReadFault → ⊥ }
+
+    // What stays.
+    ensures files_stay { D.files desk.new ≡ D.files desk.old }
+    ensures asked_stays { D.asked desk.new ≡ D.asked desk.old }
+    ensures read_faults_stay { D.read_faults desk.new ≡ D.read_faults desk.old }
+{
+    write_all(desk, Out::Notes, b"read fault\n")?;
+    Ok(Status::ReadFault)
+}
+
+/// Tells how the words are spelled.
+fn tell_usage<D: Desk>(desk: &mut D) -> Result<Status, Stop>
+    ensures told { IfOk result (λ status. status ≡ Status.WrongWords) }
+    ensures ok { OnOk result (Adds (D.written desk.old) (D.written desk.new) (only out.Notes usage_note)) }
+    ensures err { OnErr result (AddsFronts (D.written desk.old) (D.written desk.new) (only out.Notes usage_note)) }
+    ensures write_fault { IsErrOf result Stop.WriteFault → Rose (D.write_faults desk.old) (D.write_faults desk.new) }
+    ensures no_read_fault { IsErrOf result Stop.ReadFault → ⊥ }
+
+    // What stays.
+    ensures files_stay { D.files desk.new ≡ D.files desk.old }
+    ensures asked_stays { D.asked desk.new ≡ D.asked desk.old }
+    ensures read_faults_stay { D.read_faults desk.new ≡ D.read_faults desk.old }
+{
+    write_all(desk, Out::Notes, b"usage: gen NAME | replay NAME TEST FILL | load NUMBER SIZE\n")?;
+    Ok(Status::WrongWords)
+}
+
+/// Does the job of `gen` on the source of this name.
+fn generate_from<D: Desk>(alloc: Global, name: &str, desk: &mut D) -> Result<Status, Stop>
+    ensures ends { (words : List (List ℕ)) → AsksGen words name.now
+        → MatchResult result (λ status. AddsText (D.written desk.old) (D.written desk.new) (Ends (D.files desk.old) words (D.read_faults desk.old) (D.read_faults desk.new) (status_of status)))
+            (λ _. IsCutShort (D.files desk.old) words (D.read_faults desk.old) (D.read_faults desk.new) (D.written desk.old) (D.written desk.new)) }
+    ensures asked { AsksFront (D.asked desk.old) (D.asked desk.new) (name.now ∷ []) }
+    ensures write_fault { IsErrOf result Stop.WriteFault → Rose (D.write_faults desk.old) (D.write_faults desk.new) }
+    ensures no_read_fault { IsErrOf result Stop.ReadFault → ⊥ }
+    ensures files_stay { D.files desk.new ≡ D.files desk.old }
+{
+    match read_source(alloc, name, desk) {
+        Ok(source) => answer(alloc, desk, source.as_slice()),
+        Err(Stop::ReadFault) => tell_fault(desk),
+        Err(stop) => Err(stop),
+    }
+}
+
+/// Does the job that the words ask for.
+pub fn run<D: Desk>(alloc: Global, words: &[String], desk: &mut D) -> Result<Status, Stop>
+    ensures ends { MatchResult result
+        (λ status. AddsText (D.written desk.old) (D.written desk.new) (Ends (D.files desk.old) (map string_bytes words.now) (D.read_faults desk.old) (D.read_faults desk.new) (status_of status)))
+        (λ _. IsCutShort (D.files desk.old) (map string_bytes words.now) (D.read_faults desk.old) (D.read_faults desk.new) (D.written desk.old) (D.written desk.new)) }
+    ensures asked { (name : List ℕ) → AsksGen (map string_bytes words.now) name → AsksFront (D.asked desk.old) (D.asked desk.new) (name ∷ []) }
+    ensures nothing_asked { AsksNothing (map string_bytes words.now) → D.asked desk.new ≡ D.asked desk.old }
+    ensures write_fault { IsErrOf result Stop.WriteFault → Rose (D.write_faults desk.old) (D.write_faults desk.new) }
+    ensures no_read_fault { IsErrOf result Stop.ReadFault → ⊥ }
+    ensures files_stay { D.files desk.new ≡ D.files desk.old }
+{
+    match source_name(words) {
+        Some(name) => generate_from(alloc, name, desk),
+        None => tell_usage(desk),
+    }
 }

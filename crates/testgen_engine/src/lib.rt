@@ -9,7 +9,8 @@
 //! - `skeleton`: the program of a source that is built;
 //! - `decide`: tests and verdicts;
 //! - `report`, `test_text`: their texts;
-//! - `output`: writing to a desk.
+//! - `output`, `print`: writing to a desk;
+//! - `generate`: the job as a whole.
 #![tactic(auto)]
 
 mod decide;
@@ -21,3 +22,55 @@ mod skeleton;
 mod source;
 mod test_text;
 mod words;
+
+ghost use Rattle.std.specs.Prelude.{◌≡◌, ◌≤◌, ◌⊎◌, ℕ, List, [], ◌∷◌, map, string_bytes};
+ghost use Rattle.tg_base.specs.Faults.{Rose};
+ghost use Rattle.testgen_engine.specs.Endings.{Finishes, Misspells, Refuses, FailsToRead, IsCutShort, AsksFront, Completes, RefusesWhole};
+ghost use Rattle.testgen_engine.specs.Outputs.{AddsText};
+ghost use Rattle.testgen_engine.specs.Words.{AsksGen, AsksNothing};
+
+use generate::run;
+use std::alloc::Global;
+use tg_base::Desk;
+
+/// Does the job that the words ask for, and answers the status of the process.
+///
+/// The words are those of the command line without the program's name. Statuses: 0 all done, 1 wrong
+/// words, 2 the source is refused, 3 something is undecided, 4 the source could not be read, 5 an
+/// output could not be written, 6 want of memory. Where a desk does not tell what it holds, the
+/// clauses claim the texts and the statuses, and not that the desk holds the texts.
+pub fn testgen<D: Desk>(alloc: Global, words: &[String], desk: &mut D) -> u8
+    ensures statuses { result ≤ 6 }
+
+    // The headline: what is printed is right.
+    ensures headline { (result ≡ 0) ⊎ (result ≡ 3) → AddsText (D.written desk.old) (D.written desk.new) (Finishes (D.files desk.old) (map string_bytes words.now) result) }
+
+    // Wrong words are told, and nothing is opened.
+    ensures wrong_words { result ≡ 1 → AddsText (D.written desk.old) (D.written desk.new) (Misspells (map string_bytes words.now) result) }
+    ensures only_wrong_words { AsksNothing (map string_bytes words.now) → (result ≡ 1) ⊎ (5 ≤ result) }
+    ensures nothing_opened { AsksNothing (map string_bytes words.now) → D.asked desk.new ≡ D.asked desk.old }
+
+    // A refusal is told, and nothing else is written.
+    ensures refused { result ≡ 2 → AddsText (D.written desk.old) (D.written desk.new) (Refuses (D.files desk.old) (map string_bytes words.now) result) }
+
+    // A fault comes only where the desk has counted it in this call.
+    ensures read_fault { result ≡ 4 → AddsText (D.written desk.old) (D.written desk.new) (FailsToRead (map string_bytes words.now) (D.read_faults desk.old) (D.read_faults desk.new) result) }
+    ensures write_fault { result ≡ 5 → Rose (D.write_faults desk.old) (D.write_faults desk.new) }
+
+    // What a call that is cut short has written is a front of what is right.
+    ensures cut_short { 5 ≤ result → IsCutShort (D.files desk.old) (map string_bytes words.now) (D.read_faults desk.old) (D.read_faults desk.new) (D.written desk.old) (D.written desk.new) }
+
+    // No other name is asked for.
+    ensures asked { (name : List ℕ) → AsksGen (map string_bytes words.now) name → AsksFront (D.asked desk.old) (D.asked desk.new) (name ∷ []) }
+
+    // Without a fault a source that is built is finished, and any other is refused.
+    ensures completes { Completes (D.files desk.old) (map string_bytes words.now) (D.read_faults desk.old) (D.read_faults desk.new) (D.write_faults desk.old) (D.write_faults desk.new) result }
+    ensures refuses { RefusesWhole (D.files desk.old) (map string_bytes words.now) (D.read_faults desk.old) (D.read_faults desk.new) (D.write_faults desk.old) (D.write_faults desk.new) result }
+
+    ensures files_stay { D.files desk.new ≡ D.files desk.old }
+{
+    match run(alloc, words, desk) {
+        Ok(status) => status.number(),
+        Err(stop) => stop.number(),
+    }
+}

@@ -18,6 +18,21 @@ pub enum Stop {
     Memory,
 }
 
+impl Stop {
+    ghost use Rattle.testgen_engine.specs.Status.{status_of_stop};
+
+    /// The status of the process.
+    pub fn number(self) -> u8
+        ensures { result ≡ status_of_stop self }
+    {
+        match self {
+            Stop::ReadFault => 4,
+            Stop::WriteFault => 5,
+            Stop::Memory => 6,
+        }
+    }
+}
+
 impl From<AllocError> for Stop {
     ghost from_gives = { λ _ stop. stop ≡ Memory };
 
