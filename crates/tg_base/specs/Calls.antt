@@ -1,5 +1,5 @@
 -- How calls and faults are counted in 64 bits, and which calls are to fail.
-use Rattle.std.specs.Prelude.{ℕ, ◌+◌, ◌-◌, ◌^◌, ◌<◌, ◌⊎◌, Bool, true, false, if◌then◌else◌, List, Contains, Result, Ok, Err, min}
+use Rattle.std.specs.Prelude.{ℕ, ◌+◌, ◌-◌, ◌^◌, ◌<◌, ◌⊎◌, List, Contains, Result, Ok, Err, min}
 use Rattle.tg_base.specs.declared.desk.DeskFault.{DeskFault}
 use Rattle.tg_base.specs.declared.desk.DeskFault.TheVariants.{Failed, Memory}
 

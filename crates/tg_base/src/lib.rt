@@ -13,6 +13,8 @@ mod open_file;
 mod outputs;
 mod place;
 mod session;
+#[cfg(test)]
+mod tests;
 
 pub use calm_desk::CalmDesk;
 pub use desk::{Desk, DeskFault, Out};
