@@ -1,3 +1,9 @@
+pub mod Calls
+pub mod CalmDesk
 pub mod Code
 pub mod Content
 pub mod Faults
+pub mod MemDesk
+pub mod OpenFile
+pub mod Outputs
+pub mod Session

@@ -5,10 +5,20 @@
 //! [`CalmDesk`] keep files and outputs in memory. The desk over real files is the program's.
 #![tactic(auto)]
 
+mod calls;
+mod calm_desk;
 mod desk;
+mod mem_desk;
+mod open_file;
+mod outputs;
 mod place;
+mod session;
+#[cfg(test)]
+mod tests;
 
+pub use calm_desk::CalmDesk;
 pub use desk::{Desk, DeskFault, Out};
+pub use mem_desk::MemDesk;
 pub use place::{Code, Refusal, Span};
 use sqlite_items::Items;
 

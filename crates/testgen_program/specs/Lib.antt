@@ -1,0 +1,2 @@
+pub mod MadeFiles
+pub mod Streams
