@@ -1,2 +1,6 @@
-pub mod Widths
+pub mod AdderLaws
+pub mod BitListLaws
+pub mod MultiplierLaws
+pub mod ShifterLaws
 pub mod Signs
+pub mod Widths

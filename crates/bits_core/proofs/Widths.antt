@@ -44,6 +44,12 @@ wrapped-sub w k x y within small =
     let z : (pos x -ℤ pos y) +ℤ pos (2 ^ (k - w) * 2 ^ w) ≡ pos (x + (2 ^ k - y)) = omega (arith, ints) in
     mod-mod_wider (x + (2 ^ k - y)) w k within ∙ sym (wrapped_is w (pos x -ℤ pos y) (2 ^ (k - w)) (x + (2 ^ k - y)) z)
 
+-- the difference, from the sum with what y lacks to 2^w
+pub mod-sub : (w x y : ℕ) → y ≤ 2 ^ w → (x + (2 ^ w - y)) % 2 ^ w ≡ wrapped w (pos x -ℤ pos y)
+mod-sub w x y small =
+    let z : (pos x -ℤ pos y) +ℤ pos (1 * 2 ^ w) ≡ pos (x + (2 ^ w - y)) = omega (arith, ints) in
+    sym (wrapped_is w (pos x -ℤ pos y) 1 (x + (2 ^ w - y)) z)
+
 -- ---- a join
 
 pub cat_below : (x w y v : ℕ) → x < 2 ^ w → y < 2 ^ v → x * 2 ^ v + y < 2 ^ (w + v)

@@ -1,0 +1,50 @@
+-- The textbook's circuits over lists of bits, least significant first: the ripple-carry adder, the shift-and-add
+-- multiplier and the barrel shifter.
+use Rattle.std.specs.Prelude.{ℕ, suc, ◌+◌, ◌^◌, min, Bool, true, false, not, ◌&&◌, ◌||◌, if◌then◌else◌, List, [], ◌∷◌, ◌++◌, map, length, take, drop, replicate}
+
+-- ---- addition
+
+abbrev pub exclusive_or : Bool → Bool → Bool
+exclusive_or a b = if a then not b else b
+
+-- the two outputs of a full adder
+abbrev pub sum_bit : Bool → Bool → Bool → Bool
+sum_bit a b c = exclusive_or a (exclusive_or b c)
+
+abbrev pub carry_bit : Bool → Bool → Bool → Bool
+carry_bit a b c = a && b || (a && c || b && c)
+
+-- full adders in a row: the sum's bits, and the carry out of the last
+abbrev pub ripple_sum : List Bool → List Bool → Bool → List Bool
+ripple_sum [] ys c = []
+ripple_sum (x ∷ xs) [] c = []
+ripple_sum (x ∷ xs) (y ∷ ys) c = sum_bit x y c ∷ ripple_sum xs ys (carry_bit x y c)
+
+abbrev pub ripple_carry : List Bool → List Bool → Bool → Bool
+ripple_carry [] ys c = c
+ripple_carry (x ∷ xs) [] c = c
+ripple_carry (x ∷ xs) (y ∷ ys) c = ripple_carry xs ys (carry_bit x y c)
+
+-- ---- shifts by a fixed number of places
+
+abbrev pub shifted_left : ℕ → List Bool → List Bool
+shifted_left n xs = take (length xs) (replicate n false ++ xs)
+
+abbrev pub shifted_right : Bool → ℕ → List Bool → List Bool
+shifted_right fill n xs = drop n xs ++ replicate n fill
+
+-- ---- multiplication: for each bit of y that is set, x at that bit's place is added to what is there
+
+abbrev pub shift_and_add : List Bool → List Bool → List Bool → List Bool
+shift_and_add sum xs [] = sum
+shift_and_add sum xs (y ∷ ys) = shift_and_add (ripple_sum sum (map (λ x. y && x) xs) false) (shifted_left 1 xs) ys
+
+-- ---- shifts by a number: stage k shifts by 2^k places where bit k of the amount is set, but by no more than there are
+
+abbrev pub barrel_left : ℕ → List Bool → List Bool → List Bool
+barrel_left k xs [] = xs
+barrel_left k xs (b ∷ bs) = barrel_left (suc k) (if b then shifted_left (min (2 ^ k) (length xs)) xs else xs) bs
+
+abbrev pub barrel_right : Bool → ℕ → List Bool → List Bool → List Bool
+barrel_right fill k xs [] = xs
+barrel_right fill k xs (b ∷ bs) = barrel_right fill (suc k) (if b then shifted_right fill (min (2 ^ k) (length xs)) xs else xs) bs
