@@ -1,7 +1,8 @@
 -- Two's complement, and the biased numbers that stand for it.
-use Rattle.std.proofs.Common.{◌≡◌, ℕ, ◌+◌, ◌-◌, ◌*◌, ◌/◌, ◌^◌, ◌<◌, ◌≤◌, ℤ, pos, min, sym, ap, ◌∙◌, arith}
-use Rattle.std.specs.Prelude.{negsuc, ◌+ℤ◌, ◌-ℤ◌, int_lt, int_le, nat_lt, nat_le}
+use Rattle.std.proofs.Common.{⊎_elim, ◌≡◌, ℕ, ◌+◌, ◌-◌, ◌*◌, ◌/◌, ◌^◌, ◌<◌, ◌≤◌, ℤ, pos, min, sym, ap, ◌∙◌, arith}
+use Rattle.std.specs.Prelude.{◌≤ℤ◌, ◌<ℤ◌, negsuc, ◌+ℤ◌, ◌-ℤ◌, int_lt, int_le, nat_lt, nat_le}
 use Rattle.std.specs.Int.{saturate_to_bits, int_div_euclid}
+use Rattle.std.proofs.lemmas.Bool.{cases_lt}
 use Rattle.std.proofs.Math.Nat.{mod-eq_of_lt, div-le_self}
 use Rattle.std.proofs.lemmas.Nat.{pow_pos, pow-add}
 use Rattle.std.proofs.lemmas.Int.{ints}
@@ -72,3 +73,42 @@ shr_high w x d high fits =
 
 pub low_fits : (w x h : ℕ) → 1 ≤ w → w ≤ 128 → h ≡ 2 ^ (w - 1) → x < h → x + h < 2 ^ 128
 low_fits w x h some within e low = omega (arith, half_twice w some, pow_le w 128 within)
+
+-- ---- the two readings of one value
+
+pub wrapped-signed_value : (w x : ℕ) → x < 2 ^ w → wrapped w (signed_value w x) ≡ x
+wrapped-signed_value w x fits =
+    ⊎_elim
+      (λ (low : x < 2 ^ (w - 1)). ap (wrapped w) (signed_value-low w x low) ∙ mod-eq_of_lt fits)
+      (λ (high : 2 ^ (w - 1) ≤ x).
+        let z : (pos x -ℤ pos (2 ^ w)) +ℤ pos (1 * 2 ^ w) ≡ pos x = omega (arith, ints) in
+        ap (wrapped w) (signed_value-high w x high) ∙ wrapped_is w (pos x -ℤ pos (2 ^ w)) 1 x z ∙ mod-eq_of_lt fits)
+      (cases_lt x (2 ^ (w - 1)))
+
+-- the signed values of w bits are the integers from -2^(w-1) to 2^(w-1) - 1
+pub signed_value-range : (w x : ℕ) → 1 ≤ w → x < 2 ^ w →
+    ((pos 0 -ℤ pos (2 ^ (w - 1))) ≤ℤ signed_value w x) × (signed_value w x <ℤ pos (2 ^ (w - 1)))
+signed_value-range w x some fits =
+    let twice : 2 * 2 ^ (w - 1) ≡ 2 ^ w = half_twice w some in
+    ⊎_elim
+      (λ (low : x < 2 ^ (w - 1)).
+        rw (signed_value-low w x low) (omega (arith, ints), omega (arith, ints)))
+      (λ (high : 2 ^ (w - 1) ≤ x).
+        rw (signed_value-high w x high) (omega (arith, ints), omega (arith, ints)))
+      (cases_lt x (2 ^ (w - 1)))
+
+pub signed_value-wrapped : (w : ℕ) (z : ℤ) → 1 ≤ w → (pos 0 -ℤ pos (2 ^ (w - 1))) ≤ℤ z → z <ℤ pos (2 ^ (w - 1)) →
+    signed_value w (wrapped w z) ≡ z
+signed_value-wrapped w (pos n) some least greatest =
+    let low : n < 2 ^ (w - 1) = omega (arith, ints) in
+    let fits : n < 2 ^ w = omega (arith, half_twice w some) in
+    ap (signed_value w) (mod-eq_of_lt fits) ∙ signed_value-low w n low
+signed_value-wrapped w (negsuc n) some least greatest =
+    let p = 2 ^ w in
+    let twice : 2 * 2 ^ (w - 1) ≡ 2 ^ w = half_twice w some in
+    let small : n < 2 ^ (w - 1) = omega (arith, ints) in
+    let fits : n < 2 ^ w = omega arith in
+    let high : 2 ^ (w - 1) ≤ p - 1 - n = omega arith in
+    let below : p - 1 - n < p = omega arith in
+    let back : p - 1 - (p - 1 - n) ≡ n = omega arith in
+    ap (λ (m : ℕ). signed_value w (p - 1 - m)) (mod-eq_of_lt fits) ∙ signed_value-negsuc w (p - 1 - n) high below ∙ ap negsuc back

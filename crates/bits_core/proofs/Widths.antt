@@ -1,9 +1,9 @@
 -- Cuts to a width, of naturals and of integers.
 use Rattle.std.proofs.Common.{◌≡◌, ℕ, ◌+◌, ◌-◌, ◌*◌, ◌/◌, ◌%◌, ◌^◌, ◌<◌, ◌≤◌, ℤ, pos, min, refl, sym, ap, ◌∙◌, subst, arith}
-use Rattle.std.specs.Prelude.{unsigned_abs, ◌+ℤ◌, ◌-ℤ◌, bit_or}
+use Rattle.std.specs.Prelude.{negsuc, unsigned_abs, ◌+ℤ◌, ◌-ℤ◌, bit_or}
 use Rattle.std.proofs.Math.Pow.{mod-mod-pow}
-use Rattle.std.proofs.Math.Nat.{pow-le-pow_right, mul-mod_left, mul_comm}
-use Rattle.std.proofs.lemmas.Nat.{pow_pos, pow-add, mul-add-lt, shl_whole, or_shifted}
+use Rattle.std.proofs.Math.Nat.{pow-le-pow_right, mul-mod_left, mul_comm, mul_assoc}
+use Rattle.std.proofs.lemmas.Nat.{pow_pos, pow-add, mul-add-lt, shl_whole, or_shifted, mod_below, shr_split}
 use Rattle.std.proofs.lemmas.Nat.Bits.{ones_shr}
 use Rattle.std.proofs.lemmas.Int.{ints, int_rem_euclid_is}
 use Rattle.bits_core.specs.Number.{wrapped}
@@ -36,6 +36,27 @@ mod-mod_wider n w k within =
 -- an integer that is the natural m but for k times 2^w
 pub wrapped_is : (w : ℕ) (z : ℤ) (k m : ℕ) → z +ℤ pos (k * 2 ^ w) ≡ pos m → wrapped w z ≡ m % 2 ^ w
 wrapped_is w z k m e = ap unsigned_abs (int_rem_euclid_is z (pos (2 ^ w)) (2 ^ w) k m (pow_pos w) refl e)
+
+pub wrapped-below : (w : ℕ) (z : ℤ) → wrapped w z < 2 ^ w
+wrapped-below w (pos n) = mod_below n (2 ^ w) (pow_pos w)
+wrapped-below w (negsuc n) = omega (arith, pow_pos w)
+
+one_more : (q p : ℕ) → (1 + q) * p ≡ p + q * p
+one_more q p = omega arith
+
+negative_is : (n p whole rest m : ℕ) → whole + rest ≡ n → rest < p → m ≡ p + whole → negsuc n +ℤ pos m ≡ pos (p - 1 - rest)
+negative_is n p whole rest m split below e = omega (arith, ints)
+
+-- a cut of the bits of an integer
+pub mod-wrapped : (k w : ℕ) (z : ℤ) → w ≤ k → wrapped k z % 2 ^ w ≡ wrapped w z
+mod-wrapped k w (pos n) within = mod-mod_wider n w k within
+mod-wrapped k w (negsuc n) within =
+    let p = 2 ^ k in
+    let q = (1 + n / p) * 2 ^ (k - w) in
+    let times : q * 2 ^ w ≡ p + n / p * p =
+        mul_assoc (1 + n / p) (2 ^ (k - w)) (2 ^ w) ∙ ap (λ (m : ℕ). (1 + n / p) * m) (sym (pow_split w k within))
+        ∙ one_more (n / p) p in
+    sym (wrapped_is w (negsuc n) q (p - 1 - n % p) (negative_is n p (n / p * p) (n % p) (q * 2 ^ w) (shr_split n k) (mod_below n p (pow_pos k)) times))
 
 -- the difference, taken at a greater width and cut
 pub wrapped-sub : (w k x y : ℕ) → w ≤ k → y ≤ 2 ^ k → (x + (2 ^ k - y)) % 2 ^ k % 2 ^ w ≡ wrapped w (pos x -ℤ pos y)
