@@ -62,7 +62,7 @@ pub ripple_carry-is : (xs ys : List Bool) (c : Bool) → length xs ≡ length ys
     ripple_carry xs ys c ≡ nat_le (2 ^ length xs) (number_of xs + number_of ys + bit_value c)
 ripple_carry-is xs ys c e =
     carry_test (ripple_carry xs ys c) (number_of (ripple_sum xs ys c)) (2 ^ length xs) (number_of xs + number_of ys + bit_value c)
-      (number_of-ripple_sum_carry xs ys c e) (sum_below xs ys c e)
+    (number_of-ripple_sum_carry xs ys c e) (sum_below xs ys c e)
 
 -- the bit of the sum at a place, from the carry into that place
 pub get_or-ripple_sum : (xs ys : List Bool) (c : Bool) (place : ℕ) → length xs ≡ length ys → place < length xs →

@@ -22,7 +22,7 @@ number_of-append (x ∷ xs) ys = rw (pow-succ' 2 (length xs)) (omega (arith, num
 take_below : (n : ℕ) (bs : List Bool) → n ≤ length bs → number_of (take n bs) < 2 ^ n
 take_below n bs long = subst (λ (m : ℕ). number_of (take n bs) < 2 ^ m) (length-take-le n bs long) (number_of-below (take n bs))
 
-parts : (n : ℕ) (bs : List Bool) → n ≤ length bs → number_of bs ≡ number_of (drop n bs) * 2 ^ n + number_of (take n bs)
+pub parts : (n : ℕ) (bs : List Bool) → n ≤ length bs → number_of bs ≡ number_of (drop n bs) * 2 ^ n + number_of (take n bs)
 parts n bs long =
     ap number_of (sym (take-append-drop n bs)) ∙ number_of-append (take n bs) (drop n bs)
     ∙ ap (λ (m : ℕ). number_of (drop n bs) * 2 ^ m + number_of (take n bs)) (length-take-le n bs long)
@@ -31,24 +31,24 @@ parts n bs long =
 pub number_of-take : (n : ℕ) (bs : List Bool) → number_of (take n bs) ≡ number_of bs % 2 ^ n
 number_of-take n bs =
     ⊎_elim
-      (λ (short : length bs < n).
-        ap number_of (take_all n bs (omega arith))
-        ∙ sym (mod-eq_of_lt (omega (arith, number_of-below bs, pow_le (length bs) n (omega arith)))))
-      (λ (long : n ≤ length bs).
-        let e : number_of bs ≡ number_of (drop n bs) * 2 ^ n + number_of (take n bs) = parts n bs long in
-        sym (ap (λ (m : ℕ). m % 2 ^ n) e ∙ mod_low (number_of (drop n bs)) n (number_of (take n bs)) (take_below n bs long)))
-      (cases_lt (length bs) n)
+    (λ (short : length bs < n).
+    ap number_of (take_all n bs (omega arith))
+    ∙ sym (mod-eq_of_lt (omega (arith, number_of-below bs, pow_le (length bs) n (omega arith)))))
+    (λ (long : n ≤ length bs).
+    let e : number_of bs ≡ number_of (drop n bs) * 2 ^ n + number_of (take n bs) = parts n bs long in
+    sym (ap (λ (m : ℕ). m % 2 ^ n) e ∙ mod_low (number_of (drop n bs)) n (number_of (take n bs)) (take_below n bs long)))
+    (cases_lt (length bs) n)
 
 pub number_of-drop : (n : ℕ) (bs : List Bool) → number_of (drop n bs) ≡ number_of bs / 2 ^ n
 number_of-drop n bs =
     ⊎_elim
-      (λ (short : length bs < n).
-        ap number_of (drop_all n bs (omega arith))
-        ∙ sym (div-eq_of_lt (omega (arith, number_of-below bs, pow_le (length bs) n (omega arith)))))
-      (λ (long : n ≤ length bs).
-        let e : number_of bs ≡ number_of (drop n bs) * 2 ^ n + number_of (take n bs) = parts n bs long in
-        sym (ap (λ (m : ℕ). m / 2 ^ n) e ∙ shr_high (number_of (drop n bs)) n (number_of (take n bs)) (take_below n bs long)))
-      (cases_lt (length bs) n)
+    (λ (short : length bs < n).
+    ap number_of (drop_all n bs (omega arith))
+    ∙ sym (div-eq_of_lt (omega (arith, number_of-below bs, pow_le (length bs) n (omega arith)))))
+    (λ (long : n ≤ length bs).
+    let e : number_of bs ≡ number_of (drop n bs) * 2 ^ n + number_of (take n bs) = parts n bs long in
+    sym (ap (λ (m : ℕ). m / 2 ^ n) e ∙ shr_high (number_of (drop n bs)) n (number_of (take n bs)) (take_below n bs long)))
+    (cases_lt (length bs) n)
 
 pub number_of-zeros : (n : ℕ) → number_of (replicate n false) ≡ 0
 number_of-zeros zero = refl
@@ -123,18 +123,18 @@ top_bit bs some =
 pub sign_bit_high : (bs : List Bool) → 1 ≤ length bs → sign_bit bs ≡ true → 2 ^ (length bs - 1) ≤ number_of bs
 sign_bit_high bs some e =
     ⊎_elim
-      (λ (below : number_of bs < 2 ^ (length bs - 1)).
-        let none : bit_value true ≡ 0 = ap bit_value (sym e) ∙ sym (top_bit bs some) ∙ div-eq_of_lt below in
-        absurd (omega arith))
-      (λ (above : 2 ^ (length bs - 1) ≤ number_of bs). above)
-      (cases_lt (number_of bs) (2 ^ (length bs - 1)))
+    (λ (below : number_of bs < 2 ^ (length bs - 1)).
+    let none : bit_value true ≡ 0 = ap bit_value (sym e) ∙ sym (top_bit bs some) ∙ div-eq_of_lt below in
+    absurd (omega arith))
+    (λ (above : 2 ^ (length bs - 1) ≤ number_of bs). above)
+    (cases_lt (number_of bs) (2 ^ (length bs - 1)))
 
 pub sign_bit_low : (bs : List Bool) → 1 ≤ length bs → sign_bit bs ≡ false → number_of bs < 2 ^ (length bs - 1)
 sign_bit_low bs some e =
     ⊎_elim
-      (λ (below : number_of bs < 2 ^ (length bs - 1)). below)
-      (λ (above : 2 ^ (length bs - 1) ≤ number_of bs).
-        let none : number_of bs / 2 ^ (length bs - 1) ≡ 0 = top_bit bs some ∙ ap bit_value e in
-        let one : 1 ≤ number_of bs / 2 ^ (length bs - 1) = le-div 1 (number_of bs) (2 ^ (length bs - 1)) (pow_pos (length bs - 1)) (omega arith) in
-        absurd (omega arith))
-      (cases_lt (number_of bs) (2 ^ (length bs - 1)))
+    (λ (below : number_of bs < 2 ^ (length bs - 1)). below)
+    (λ (above : 2 ^ (length bs - 1) ≤ number_of bs).
+    let none : number_of bs / 2 ^ (length bs - 1) ≡ 0 = top_bit bs some ∙ ap bit_value e in
+    let one : 1 ≤ number_of bs / 2 ^ (length bs - 1) = le-div 1 (number_of bs) (2 ^ (length bs - 1)) (pow_pos (length bs - 1)) (omega arith) in
+    absurd (omega arith))
+    (cases_lt (number_of bs) (2 ^ (length bs - 1)))

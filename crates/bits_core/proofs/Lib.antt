@@ -1,7 +1,9 @@
 pub mod AdderLaws
 pub mod BitListLaws
+pub mod ComparatorLaws
 pub mod MultiplierLaws
 pub mod PartLaws
+pub mod RowLaws
 pub mod ShifterLaws
 pub mod Signs
 pub mod Widths

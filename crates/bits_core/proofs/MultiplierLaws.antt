@@ -19,9 +19,9 @@ length-shifted_left n xs = length-take-le (length xs) (replicate n false ++ xs) 
 pub number_of-shifted_left : (n : ℕ) (xs : List Bool) → number_of (shifted_left n xs) ≡ (number_of xs * 2 ^ n) % 2 ^ length xs
 number_of-shifted_left n xs =
     let above : number_of (replicate n false ++ xs) ≡ number_of xs * 2 ^ n =
-        number_of-append (replicate n false) xs
-        ∙ ap (λ (m : ℕ). number_of xs * 2 ^ m + number_of (replicate n false)) (length-replicate n false)
-        ∙ omega (arith, number_of-zeros n) in
+    number_of-append (replicate n false) xs
+    ∙ ap (λ (m : ℕ). number_of xs * 2 ^ m + number_of (replicate n false)) (length-replicate n false)
+    ∙ omega (arith, number_of-zeros n) in
     number_of-take (length xs) (replicate n false ++ xs) ∙ ap (λ (m : ℕ). m % 2 ^ length xs) above
 
 -- ---- a partial product
@@ -38,7 +38,7 @@ product_step : (s b x y m : ℕ) → ((s + b * x + 0) % m + (x * 2 % m) * y) % m
 product_step s b x y m =
     let first : ((s + b * x + 0) % m + (x * 2 % m) * y) % m ≡ (s + b * x + 0 + (x * 2 % m) * y) % m = mod-add-mod (s + b * x + 0) m ((x * 2 % m) * y) in
     let second : (s + b * x + 0 + (x * 2 % m) * y) % m ≡ (s + b * x + 0 + (x * 2 * y) % m) % m =
-        sym (add-mod-mod (s + b * x + 0) ((x * 2 % m) * y) m) ∙ ap (λ (n : ℕ). (s + b * x + 0 + n) % m) (mul-mod_first (x * 2) y m) in
+    sym (add-mod-mod (s + b * x + 0) ((x * 2 % m) * y) m) ∙ ap (λ (n : ℕ). (s + b * x + 0 + n) % m) (mul-mod_first (x * 2) y m) in
     let third : (s + b * x + 0 + (x * 2 * y) % m) % m ≡ (s + b * x + 0 + x * 2 * y) % m = add-mod-mod (s + b * x + 0) (x * 2 * y) m in
     let same : s + b * x + 0 + x * 2 * y ≡ s + x * (b + 2 * y) = omega arith in
     first ∙ second ∙ third ∙ ap (λ (n : ℕ). n % m) same
@@ -52,9 +52,9 @@ number_of-shift_and_add sum xs (y ∷ ys) e =
     let gated = map (λ x. y && x) xs in
     let lengths : length sum ≡ length gated = e ∙ sym (length-map xs (λ x. y && x)) in
     let added : number_of (ripple_sum sum gated false) ≡ (number_of sum + bit_value y * number_of xs + 0) % 2 ^ length xs =
-        number_of-ripple_sum sum gated false lengths
-        ∙ ap (λ (w : ℕ). (number_of sum + number_of gated + 0) % 2 ^ w) e
-        ∙ ap (λ (n : ℕ). (number_of sum + n + 0) % 2 ^ length xs) (number_of-gated y xs) in
+    number_of-ripple_sum sum gated false lengths
+    ∙ ap (λ (w : ℕ). (number_of sum + number_of gated + 0) % 2 ^ w) e
+    ∙ ap (λ (n : ℕ). (number_of sum + n + 0) % 2 ^ length xs) (number_of-gated y xs) in
     let kept : length (ripple_sum sum gated false) ≡ length (shifted_left 1 xs) = length-ripple_sum sum gated false lengths ∙ e ∙ sym (length-shifted_left 1 xs) in
     number_of-shift_and_add (ripple_sum sum gated false) (shifted_left 1 xs) ys kept
     ∙ ap (λ (w : ℕ). (number_of (ripple_sum sum gated false) + number_of (shifted_left 1 xs) * number_of ys) % 2 ^ w) (length-shifted_left 1 xs)

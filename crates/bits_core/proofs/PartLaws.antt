@@ -85,7 +85,7 @@ slice_value-cat_across w x v y high low fits below above =
     ∙ ap (λ (m : ℕ). slice_value n high m * 2 ^ (v - 1 - low + 1) + slice_value n (v - 1) low) next
     ∙ ap (λ (m : ℕ). slice_value n high v * 2 ^ m + slice_value n (v - 1) low) width
     ∙ ap (λ (m : ℕ). m * 2 ^ (v - low) + slice_value n (v - 1) low)
-        (slice_value-cat_high w x v y high v fits above (omega arith) ∙ ap (λ (m : ℕ). slice_value x (high - v) m) start)
+    (slice_value-cat_high w x v y high v fits above (omega arith) ∙ ap (λ (m : ℕ). slice_value x (high - v) m) start)
     ∙ ap (λ (m : ℕ). slice_value x (high - v) 0 * 2 ^ (v - low) + m) (slice_value-cat_low w x v y (v - 1) low fits (omega arith) (omega arith))
 
 -- a slice of a slice

@@ -21,23 +21,23 @@ use Rattle.bits_core.proofs.Widths.{pow_le, pow_split}
 pub shl-min : (x w n : ℕ) → (x * 2 ^ min n w) % 2 ^ w ≡ (x * 2 ^ n) % 2 ^ w
 shl-min x w n =
     ⊎_elim
-      (λ (short : n < w). let least : min n w ≡ n = omega arith in ap (λ (m : ℕ). (x * 2 ^ m) % 2 ^ w) least)
-      (λ (long : w ≤ n).
-        let least : min n w ≡ w = omega arith in
-        let split : x * 2 ^ n ≡ x * 2 ^ (n - w) * 2 ^ w =
-            ap (λ (m : ℕ). x * m) (pow_split w n long) ∙ sym (mul_assoc x (2 ^ (n - w)) (2 ^ w)) in
-        ap (λ (m : ℕ). (x * 2 ^ m) % 2 ^ w) least ∙ mul-mod_left x (2 ^ w)
-        ∙ sym (ap (λ (m : ℕ). m % 2 ^ w) split ∙ mul-mod_left (x * 2 ^ (n - w)) (2 ^ w)))
-      (cases_lt n w)
+    (λ (short : n < w). let least : min n w ≡ n = omega arith in ap (λ (m : ℕ). (x * 2 ^ m) % 2 ^ w) least)
+    (λ (long : w ≤ n).
+    let least : min n w ≡ w = omega arith in
+    let split : x * 2 ^ n ≡ x * 2 ^ (n - w) * 2 ^ w =
+    ap (λ (m : ℕ). x * m) (pow_split w n long) ∙ sym (mul_assoc x (2 ^ (n - w)) (2 ^ w)) in
+    ap (λ (m : ℕ). (x * 2 ^ m) % 2 ^ w) least ∙ mul-mod_left x (2 ^ w)
+    ∙ sym (ap (λ (m : ℕ). m % 2 ^ w) split ∙ mul-mod_left (x * 2 ^ (n - w)) (2 ^ w)))
+    (cases_lt n w)
 
 pub shr-min : (x w n : ℕ) → x < 2 ^ w → x / 2 ^ min n w ≡ x / 2 ^ n
 shr-min x w n fits =
     ⊎_elim
-      (λ (short : n < w). let least : min n w ≡ n = omega arith in ap (λ (m : ℕ). x / 2 ^ m) least)
-      (λ (long : w ≤ n).
-        let least : min n w ≡ w = omega arith in
-        ap (λ (m : ℕ). x / 2 ^ m) least ∙ div-eq_of_lt fits ∙ sym (div-eq_of_lt (omega (arith, pow_le w n long))))
-      (cases_lt n w)
+    (λ (short : n < w). let least : min n w ≡ n = omega arith in ap (λ (m : ℕ). x / 2 ^ m) least)
+    (λ (long : w ≤ n).
+    let least : min n w ≡ w = omega arith in
+    ap (λ (m : ℕ). x / 2 ^ m) least ∙ div-eq_of_lt fits ∙ sym (div-eq_of_lt (omega (arith, pow_le w n long))))
+    (cases_lt n w)
 
 -- ---- the amount that the stages from k on shift by
 
@@ -72,7 +72,7 @@ pub number_of-barrel_left : (k : ℕ) (xs bs : List Bool) →
     number_of (barrel_left k xs bs) ≡ (number_of xs * 2 ^ (2 ^ k * number_of bs)) % 2 ^ length xs
 number_of-barrel_left k xs [] =
     sym (ap (λ (p : ℕ). (number_of xs * p) % 2 ^ length xs) (amount_none k)
-         ∙ ap (λ (n : ℕ). n % 2 ^ length xs) (by_one (number_of xs)) ∙ mod-eq_of_lt (number_of-below xs))
+    ∙ ap (λ (n : ℕ). n % 2 ^ length xs) (by_one (number_of xs)) ∙ mod-eq_of_lt (number_of-below xs))
 number_of-barrel_left k xs (false ∷ bs) =
     number_of-barrel_left (suc k) xs bs
     ∙ ap (λ (m : ℕ). (number_of xs * 2 ^ m) % 2 ^ length xs) (amount_false k (number_of bs))
@@ -143,8 +143,8 @@ not-barrel_right k xs (false ∷ bs) = not-barrel_right (suc k) xs bs
 not-barrel_right k xs (true ∷ bs) =
     not-barrel_right (suc k) (shifted_right true (min (2 ^ k) (length xs)) xs) bs
     ∙ ap (λ (ys : List Bool). barrel_right false (suc k) ys bs)
-        (not-shifted_right (min (2 ^ k) (length xs)) xs
-         ∙ ap (λ (w : ℕ). shifted_right false (min (2 ^ k) w) (map not xs)) (sym (length-map xs not)))
+    (not-shifted_right (min (2 ^ k) (length xs)) xs
+    ∙ ap (λ (w : ℕ). shifted_right false (min (2 ^ k) w) (map not xs)) (sym (length-map xs not)))
 
 pub length-barrel_right : (fill : Bool) (k : ℕ) (xs bs : List Bool) → length (barrel_right fill k xs bs) ≡ length xs
 length-barrel_right fill k xs [] = refl
@@ -165,8 +165,8 @@ number_of-barrel_right_ones k xs bs =
     let below : number_of out < p = subst (λ (w : ℕ). number_of out < 2 ^ w) kept (number_of-below out) in
     let outer : number_of (map not out) ≡ p - 1 - number_of out = number_of-not out ∙ ap (λ (w : ℕ). 2 ^ w - 1 - number_of out) kept in
     let inner : number_of (map not out) ≡ (p - 1 - number_of xs) / 2 ^ (2 ^ k * number_of bs) =
-        ap number_of (not-barrel_right k xs bs) ∙ number_of-barrel_right k (map not xs) bs
-        ∙ ap (λ (n : ℕ). n / 2 ^ (2 ^ k * number_of bs)) (number_of-not xs) in
+    ap number_of (not-barrel_right k xs bs) ∙ number_of-barrel_right k (map not xs) bs
+    ∙ ap (λ (n : ℕ). n / 2 ^ (2 ^ k * number_of bs)) (number_of-not xs) in
     turned_back p (number_of (map not out)) (number_of out) below outer ∙ ap (λ (n : ℕ). p - 1 - n) inner
 
 turned_below : (x p : ℕ) → 0 < p → p - 1 - x < p

@@ -79,11 +79,11 @@ low_fits w x h some within e low = omega (arith, half_twice w some, pow_le w 128
 pub wrapped-signed_value : (w x : ℕ) → x < 2 ^ w → wrapped w (signed_value w x) ≡ x
 wrapped-signed_value w x fits =
     ⊎_elim
-      (λ (low : x < 2 ^ (w - 1)). ap (wrapped w) (signed_value-low w x low) ∙ mod-eq_of_lt fits)
-      (λ (high : 2 ^ (w - 1) ≤ x).
-        let z : (pos x -ℤ pos (2 ^ w)) +ℤ pos (1 * 2 ^ w) ≡ pos x = omega (arith, ints) in
-        ap (wrapped w) (signed_value-high w x high) ∙ wrapped_is w (pos x -ℤ pos (2 ^ w)) 1 x z ∙ mod-eq_of_lt fits)
-      (cases_lt x (2 ^ (w - 1)))
+    (λ (low : x < 2 ^ (w - 1)). ap (wrapped w) (signed_value-low w x low) ∙ mod-eq_of_lt fits)
+    (λ (high : 2 ^ (w - 1) ≤ x).
+    let z : (pos x -ℤ pos (2 ^ w)) +ℤ pos (1 * 2 ^ w) ≡ pos x = omega (arith, ints) in
+    ap (wrapped w) (signed_value-high w x high) ∙ wrapped_is w (pos x -ℤ pos (2 ^ w)) 1 x z ∙ mod-eq_of_lt fits)
+    (cases_lt x (2 ^ (w - 1)))
 
 -- the signed values of w bits are the integers from -2^(w-1) to 2^(w-1) - 1
 pub signed_value-range : (w x : ℕ) → 1 ≤ w → x < 2 ^ w →
@@ -91,11 +91,11 @@ pub signed_value-range : (w x : ℕ) → 1 ≤ w → x < 2 ^ w →
 signed_value-range w x some fits =
     let twice : 2 * 2 ^ (w - 1) ≡ 2 ^ w = half_twice w some in
     ⊎_elim
-      (λ (low : x < 2 ^ (w - 1)).
-        rw (signed_value-low w x low) (omega (arith, ints), omega (arith, ints)))
-      (λ (high : 2 ^ (w - 1) ≤ x).
-        rw (signed_value-high w x high) (omega (arith, ints), omega (arith, ints)))
-      (cases_lt x (2 ^ (w - 1)))
+    (λ (low : x < 2 ^ (w - 1)).
+    rw (signed_value-low w x low) (omega (arith, ints), omega (arith, ints)))
+    (λ (high : 2 ^ (w - 1) ≤ x).
+    rw (signed_value-high w x high) (omega (arith, ints), omega (arith, ints)))
+    (cases_lt x (2 ^ (w - 1)))
 
 pub signed_value-wrapped : (w : ℕ) (z : ℤ) → 1 ≤ w → (pos 0 -ℤ pos (2 ^ (w - 1))) ≤ℤ z → z <ℤ pos (2 ^ (w - 1)) →
     signed_value w (wrapped w z) ≡ z

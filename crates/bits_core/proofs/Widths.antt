@@ -54,8 +54,8 @@ mod-wrapped k w (negsuc n) within =
     let p = 2 ^ k in
     let q = (1 + n / p) * 2 ^ (k - w) in
     let times : q * 2 ^ w ≡ p + n / p * p =
-        mul_assoc (1 + n / p) (2 ^ (k - w)) (2 ^ w) ∙ ap (λ (m : ℕ). (1 + n / p) * m) (sym (pow_split w k within))
-        ∙ one_more (n / p) p in
+    mul_assoc (1 + n / p) (2 ^ (k - w)) (2 ^ w) ∙ ap (λ (m : ℕ). (1 + n / p) * m) (sym (pow_split w k within))
+    ∙ one_more (n / p) p in
     sym (wrapped_is w (negsuc n) q (p - 1 - n % p) (negative_is n p (n / p * p) (n % p) (q * 2 ^ w) (shr_split n k) (mod_below n p (pow_pos k)) times))
 
 -- the difference, taken at a greater width and cut

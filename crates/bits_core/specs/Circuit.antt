@@ -1,6 +1,7 @@
 -- The textbook's circuits over lists of bits, least significant first: the ripple-carry adder, the shift-and-add
--- multiplier and the barrel shifter.
-use Rattle.std.specs.Prelude.{ℕ, suc, ◌+◌, ◌^◌, min, Bool, true, false, not, ◌&&◌, ◌||◌, if◌then◌else◌, List, [], ◌∷◌, ◌++◌, map, length, take, drop, replicate}
+-- multiplier, the barrel shifter and comparators.
+use Rattle.std.specs.Prelude.{ℕ, suc, ◌+◌, ◌-◌, ◌^◌, min, Bool, true, false, not, ◌&&◌, ◌||◌, if◌then◌else◌, List, [], ◌∷◌, ◌++◌, map, length, take, drop, replicate}
+use Rattle.bits_core.specs.BitList.{sign_bit}
 
 -- ---- addition
 
@@ -48,3 +49,22 @@ barrel_left k xs (b ∷ bs) = barrel_left (suc k) (if b then shifted_left (min (
 abbrev pub barrel_right : Bool → ℕ → List Bool → List Bool → List Bool
 barrel_right fill k xs [] = xs
 barrel_right fill k xs (b ∷ bs) = barrel_right fill (suc k) (if b then shifted_right fill (min (2 ^ k) (length xs)) xs else xs) bs
+
+-- ---- comparison
+
+-- no place differs
+abbrev pub equal_bits : List Bool → List Bool → Bool
+equal_bits [] ys = true
+equal_bits (x ∷ xs) [] = false
+equal_bits (x ∷ xs) (y ∷ ys) = not (exclusive_or x y) && equal_bits xs ys
+
+-- the list with its sign bit turned round, whose number has the order of the signed value
+abbrev pub sign_turned : List Bool → List Bool
+sign_turned xs = take (length xs - 1) xs ++ not (sign_bit xs) ∷ []
+
+-- ---- bit by bit
+
+abbrev pub bitwise : (Bool → Bool → Bool) → List Bool → List Bool → List Bool
+bitwise f [] ys = []
+bitwise f (x ∷ xs) [] = []
+bitwise f (x ∷ xs) (y ∷ ys) = f x y ∷ bitwise f xs ys

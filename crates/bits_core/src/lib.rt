@@ -16,3 +16,6 @@ pub use evaluate::apply;
 pub use number::Bits;
 pub use operator::{OPERATORS, Op, OpRow, OpShape, Table};
 pub use parts::{extend, slice};
+
+#[cfg(test)]
+mod tests;
