@@ -1,15 +1,13 @@
 -- For comparators and saturating adders over lists of bits.
-use Rattle.std.proofs.Common.{◌≡◌, ℕ, zero, suc, ◌+◌, ◌-◌, ◌*◌, ◌/◌, ◌%◌, ◌^◌, ◌<◌, ◌≤◌, Bool, true, false, List, [], ◌∷◌, ◌++◌, length, take, drop, ℤ, pos, refl, sym, ap, ◌∙◌, subst, arith}
+use Rattle.std.proofs.Common.{◌≡◌, ℕ, ◌+◌, ◌-◌, ◌*◌, ◌^◌, ◌<◌, ◌≤◌, Bool, true, false, List, [], ◌∷◌, length, take, ℤ, pos, refl, sym, ap, ◌∙◌, subst, arith}
 use Rattle.std.specs.Prelude.{not, map, ◌==◌, ◌&&◌, nat_lt, nat_le, int_lt, int_le, ◌+ℤ◌, ◌-ℤ◌}
 use Rattle.std.proofs.lemmas.Int.{ints}
 use Rattle.std.proofs.lemmas.List.{length-take-le}
-use Rattle.bits_core.specs.declared.operator.Op.TheVariants.{Eq, LtU, LeU, LtS, LeS}
-use Rattle.bits_core.specs.BitList.{bit_value, number_of, bits_of, sign_bit}
+use Rattle.bits_core.specs.BitList.{bit_value, number_of, sign_bit}
 use Rattle.bits_core.specs.Circuit.{exclusive_or, ripple_carry, equal_bits, sign_turned}
 use Rattle.bits_core.specs.Number.{signed_value}
-use Rattle.bits_core.specs.Operator.{operator_value}
 use Rattle.bits_core.proofs.AdderLaws.{less_equal_by_ripple}
-use Rattle.bits_core.proofs.BitListLaws.{number_of-append, number_of-below, number_of-take, bits_of-number_of, parts, top_bit, number_of-drop}
+use Rattle.bits_core.proofs.BitListLaws.{number_of-append, number_of-below, parts, top_bit, number_of-drop}
 use Rattle.bits_core.proofs.Signs.{signed_value-low, signed_value-high, half_twice, int_lt-biased, int_le-biased}
 
 -- ---- equality

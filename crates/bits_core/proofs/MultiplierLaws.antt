@@ -1,8 +1,8 @@
 -- For a shift-and-add multiplier.
-use Rattle.std.proofs.Common.{◌≡◌, ℕ, zero, suc, ◌+◌, ◌-◌, ◌*◌, ◌/◌, ◌%◌, ◌^◌, ◌<◌, ◌≤◌, Bool, true, false, List, [], ◌∷◌, ◌++◌, length, take, drop, replicate, min, refl, sym, ap, ◌∙◌, subst, arith}
+use Rattle.std.proofs.Common.{◌≡◌, ℕ, ◌+◌, ◌*◌, ◌%◌, ◌^◌, ◌<◌, Bool, true, false, List, [], ◌∷◌, ◌++◌, length, replicate, refl, sym, ap, ◌∙◌, subst, arith}
 use Rattle.std.specs.Prelude.{map, ◌&&◌}
 use Rattle.std.proofs.Math.Nat.{mod-eq_of_lt, mod-add-mod, add-mod-mod}
-use Rattle.std.proofs.lemmas.List.{length-map, length-replicate, length-take-le, length-append, map-id}
+use Rattle.std.proofs.lemmas.List.{length-map, length-replicate, length-take-le, length-append}
 use Rattle.std.proofs.lemmas.Nat.{mul-mod_first}
 use Rattle.bits_core.specs.declared.operator.Op.TheVariants.{Mul}
 use Rattle.bits_core.specs.BitList.{bit_value, number_of}

@@ -1,11 +1,11 @@
 -- Slices, joins and extensions of numbers. A slice a[high:low] has its ends among its bits.
-use Rattle.std.proofs.Common.{◌≡◌, ℕ, ◌+◌, ◌-◌, ◌*◌, ◌/◌, ◌%◌, ◌^◌, ◌<◌, ◌≤◌, Bool, true, false, refl, sym, ap, ◌∙◌, subst, arith}
-use Rattle.std.specs.Prelude.{ℤ, pos, negsuc}
+use Rattle.std.proofs.Common.{◌≡◌, ℕ, ◌+◌, ◌-◌, ◌*◌, ◌/◌, ◌%◌, ◌^◌, ◌<◌, ◌≤◌, Bool, true, false, refl, sym, ap, ◌∙◌, arith}
+use Rattle.std.specs.Prelude.{pos}
 use Rattle.std.proofs.Math.Nat.{mod-eq_of_lt}
 use Rattle.std.proofs.lemmas.Nat.{mod-pow-add, field_of, shr-shr, mod_low, shr_high}
 use Rattle.std.proofs.lemmas.Int.{ints}
 use Rattle.bits_core.specs.declared.operator.Op.TheVariants.{Cat}
-use Rattle.bits_core.specs.Number.{signed_value, wrapped, slice_value, extend_value}
+use Rattle.bits_core.specs.Number.{signed_value, slice_value, extend_value}
 use Rattle.bits_core.specs.Operator.{operator_value}
 use Rattle.bits_core.proofs.Signs.{wrapped-signed_value, signed_value-range, signed_value-wrapped}
 use Rattle.bits_core.proofs.Widths.{mod-mod_wider, mod-wrapped, wrapped-below, pow_le}

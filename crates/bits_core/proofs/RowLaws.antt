@@ -1,6 +1,6 @@
 -- Laws of the operators' table.
-use Rattle.std.proofs.Common.{◌≡◌, ℕ, ◌+◌, ◌-◌, ◌*◌, ◌/◌, ◌%◌, ◌^◌, ◌<◌, ◌≤◌, Bool, true, false, ℤ, pos, refl, sym, ap, ◌∙◌, subst, arith}
-use Rattle.std.specs.Prelude.{◌-ℤ◌, ◌+ℤ◌, min, if◌then◌else◌, bit_and}
+use Rattle.std.proofs.Common.{◌≡◌, ℕ, ◌+◌, ◌-◌, ◌*◌, ◌%◌, ◌^◌, ◌<◌, Bool, true, false, pos, sym, ap, ◌∙◌, subst, arith}
+use Rattle.std.specs.Prelude.{◌-ℤ◌, min, if◌then◌else◌}
 use Rattle.std.proofs.Math.Nat.{div-le_self, add-mod-mod}
 use Rattle.std.proofs.lemmas.Nat.{pow_pos, mod_below, and_le_l, or_lt, xor_lt}
 use Rattle.bits_core.specs.declared.operator.Op.{Op}

@@ -1,13 +1,12 @@
 -- For a barrel shifter, to the left and to the right.
-use Rattle.std.proofs.Common.{◌≡◌, ℕ, zero, suc, ◌+◌, ◌-◌, ◌*◌, ◌/◌, ◌%◌, ◌^◌, ◌<◌, ◌≤◌, Bool, true, false, List, [], ◌∷◌, ◌++◌, length, take, drop, get_or, replicate, min, refl, sym, ap, ◌∙◌, subst, arith, ⊎_elim}
-use Rattle.std.specs.Prelude.{map, not, pos}
-use Rattle.std.specs.Int.{int_div_euclid}
+use Rattle.std.proofs.Common.{◌≡◌, ℕ, zero, suc, ◌+◌, ◌-◌, ◌*◌, ◌/◌, ◌%◌, ◌^◌, ◌<◌, ◌≤◌, Bool, true, false, List, [], ◌∷◌, ◌++◌, length, drop, replicate, min, refl, sym, ap, ◌∙◌, subst, arith, ⊎_elim}
+use Rattle.std.specs.Prelude.{map, not}
 use Rattle.std.proofs.Math.Nat.{mod-eq_of_lt, div-eq_of_lt, mul-mod_left, pow-succ', mul_assoc}
 use Rattle.std.proofs.lemmas.Bool.{cases_lt}
 use Rattle.std.proofs.lemmas.List.{length-map, length-replicate, length-append, length-drop, map-append, drop-map}
 use Rattle.std.proofs.lemmas.Nat.{pow-add, pow_pos, shr-shr, mul-mod_first}
 use Rattle.bits_core.specs.declared.operator.Op.TheVariants.{Shl, ShrU, ShrS}
-use Rattle.bits_core.specs.BitList.{bit_value, number_of, sign_bit}
+use Rattle.bits_core.specs.BitList.{number_of, sign_bit}
 use Rattle.bits_core.specs.Circuit.{shifted_left, shifted_right, barrel_left, barrel_right}
 use Rattle.bits_core.specs.Operator.{operator_value}
 use Rattle.bits_core.proofs.BitListLaws.{number_of-append, number_of-below, number_of-drop, number_of-not, number_of-zeros, sign_bit_low, sign_bit_high}

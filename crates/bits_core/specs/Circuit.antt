@@ -1,6 +1,6 @@
 -- The textbook's circuits over lists of bits, least significant first: the ripple-carry adder, the shift-and-add
 -- multiplier, the barrel shifter and comparators.
-use Rattle.std.specs.Prelude.{ℕ, suc, ◌+◌, ◌-◌, ◌^◌, min, Bool, true, false, not, ◌&&◌, ◌||◌, if◌then◌else◌, List, [], ◌∷◌, ◌++◌, map, length, take, drop, replicate}
+use Rattle.std.specs.Prelude.{ℕ, suc, ◌-◌, ◌^◌, min, Bool, true, false, not, ◌&&◌, ◌||◌, if◌then◌else◌, List, [], ◌∷◌, ◌++◌, map, length, take, drop, replicate}
 use Rattle.bits_core.specs.BitList.{sign_bit}
 
 -- ---- addition

@@ -4,6 +4,7 @@ use Rattle.std.specs.Prelude.{ℕ, ◌+◌, ◌-◌, ◌*◌, ◌/◌, ◌%◌, 
 use Rattle.std.specs.Int.{saturate_to_bits, int_div_euclid}
 use Rattle.bits_core.specs.declared.operator.Op.{Op}
 use Rattle.bits_core.specs.declared.operator.Op.TheVariants.{Add, Sub, Mul, AddSatU, SubSatU, AddSatS, SubSatS, And, Or, Xor, Not, Neg, Shl, ShrU, ShrS, Cat, Eq, LtU, LeU, LtS, LeS}
+use Rattle.bits_core.specs.declared.operator.OpRow.{OpRow}
 use Rattle.bits_core.specs.declared.operator.OpShape.{OpShape}
 use Rattle.bits_core.specs.declared.operator.OpShape.TheVariants.{One, Same, Shift, Join, Test}
 use Rattle.bits_core.specs.Number.{signed_value, wrapped}
@@ -31,6 +32,10 @@ shape_of LtU = Test
 shape_of LeU = Test
 shape_of LtS = Test
 shape_of LeS = Test
+
+-- the row of the table that an operator stands in
+abbrev pub row_of : Op → OpRow
+row_of op = record { op = op; shape = shape_of op }
 
 -- operands of w and v bits may stand under an operator of this shape
 abbrev pub WidthsFit : OpShape → ℕ → ℕ → Type 0
