@@ -1,9 +1,9 @@
 -- For a barrel shifter, to the left and to the right.
-use Rattle.std.proofs.Common.{◌≡◌, ℕ, zero, suc, ◌+◌, ◌-◌, ◌*◌, ◌/◌, ◌%◌, ◌^◌, ◌<◌, ◌≤◌, Bool, true, false, List, [], ◌∷◌, ◌++◌, length, drop, replicate, min, refl, sym, ap, ◌∙◌, subst, arith, ⊎_elim}
-use Rattle.std.specs.Prelude.{map, not}
+use Rattle.std.proofs.Common.{◌≡◌, ℕ, zero, suc, ◌+◌, ◌-◌, ◌*◌, ◌/◌, ◌%◌, ◌^◌, ◌<◌, ◌≤◌, Bool, true, false, List, [], ◌∷◌, ◌++◌, length, drop, replicate, min, refl, sym, ap, ◌∙◌, subst, arith, ⊎_elim, get_or}
+use Rattle.std.specs.Prelude.{map, not, nat_lt, if◌then◌else◌}
 use Rattle.std.proofs.Math.Nat.{mod-eq_of_lt, div-eq_of_lt, mul-mod_left, pow-succ', mul_assoc}
-use Rattle.std.proofs.lemmas.Bool.{cases_lt}
-use Rattle.std.proofs.lemmas.List.{length-map, length-replicate, length-append, length-drop, map-append, drop-map}
+use Rattle.std.proofs.lemmas.Bool.{cases_lt, cond-true, cond-false, lt-ltb, le-ltb}
+use Rattle.std.proofs.lemmas.List.{length-map, length-replicate, length-append, length-drop, map-append, drop-map, get_or-take, get_or-drop, get_or-replicate, get_or_append_left, get_or-append_right}
 use Rattle.std.proofs.lemmas.Nat.{pow-add, pow_pos, shr-shr, mul-mod_first}
 use Rattle.bits_core.specs.declared.operator.Op.TheVariants.{Shl, ShrU, ShrS}
 use Rattle.bits_core.specs.BitList.{number_of, sign_bit}
@@ -193,3 +193,34 @@ signed_cases xs bs some true e =
 pub shift_right_signed_by_barrel : (xs bs : List Bool) → 1 ≤ length xs →
     number_of (barrel_right (sign_bit xs) 0 xs bs) ≡ operator_value ShrS (length xs) (number_of xs) (length bs) (number_of bs)
 shift_right_signed_by_barrel xs bs some = signed_cases xs bs some (sign_bit xs) refl
+
+-- ---- the bit at a place after a shift by n places, as a row of multiplexers has it
+
+pub get_or-shifted_left : (n : ℕ) (xs : List Bool) (place : ℕ) → place < length xs →
+    get_or (shifted_left n xs) place false ≡ (if nat_lt place n then false else get_or xs (place - n) false)
+get_or-shifted_left n xs place within =
+    get_or-take (length xs) (replicate n false ++ xs) place false within
+    ∙ ⊎_elim
+    (λ (below : place < n).
+    let under : place < length (replicate n false) = omega (arith, length-replicate n false) in
+    get_or_append_left (replicate n false) xs false place under ∙ get_or-replicate n place false false below
+    ∙ sym (cond-true (nat_lt place n) false (get_or xs (place - n) false) (lt-ltb place n below)))
+    (λ (above : n ≤ place).
+    get_or-append_right (replicate n false) xs n place false (length-replicate n false) above
+    ∙ sym (cond-false (nat_lt place n) false (get_or xs (place - n) false) (le-ltb place n above)))
+    (cases_lt place n)
+
+pub get_or-shifted_right : (fill : Bool) (n : ℕ) (xs : List Bool) (place : ℕ) → n ≤ length xs → place < length xs →
+    get_or (shifted_right fill n xs) place false ≡ (if nat_lt (n + place) (length xs) then get_or xs (n + place) false else fill)
+get_or-shifted_right fill n xs place enough within =
+    ⊎_elim
+    (λ (below : n + place < length xs).
+    let under : place < length (drop n xs) = omega (arith, length-drop n xs) in
+    get_or_append_left (drop n xs) (replicate n fill) false place under ∙ get_or-drop n xs place false
+    ∙ sym (cond-true (nat_lt (n + place) (length xs)) (get_or xs (n + place) false) fill (lt-ltb (n + place) (length xs) below)))
+    (λ (above : length xs ≤ n + place).
+    let rest : place - (length xs - n) < n = omega arith in
+    get_or-append_right (drop n xs) (replicate n fill) (length xs - n) place false (length-drop n xs) (omega arith)
+    ∙ get_or-replicate n (place - (length xs - n)) fill false rest
+    ∙ sym (cond-false (nat_lt (n + place) (length xs)) (get_or xs (n + place) false) fill (le-ltb (n + place) (length xs) above)))
+    (cases_lt (n + place) (length xs))

@@ -1,7 +1,7 @@
 -- The textbook's circuits over lists of bits, least significant first: the ripple-carry adder, the shift-and-add
 -- multiplier, the barrel shifter and comparators.
 use Rattle.std.specs.Prelude.{ℕ, suc, ◌-◌, ◌^◌, min, Bool, true, false, not, ◌&&◌, ◌||◌, if◌then◌else◌, List, [], ◌∷◌, ◌++◌, map, length, take, drop, replicate}
-use Rattle.bits_core.specs.BitList.{sign_bit}
+use Rattle.bits_core.specs.BitList.{number_of, sign_bit}
 
 -- ---- addition
 
@@ -68,3 +68,18 @@ abbrev pub bitwise : (Bool → Bool → Bool) → List Bool → List Bool → Li
 bitwise f [] ys = []
 bitwise f (x ∷ xs) [] = []
 bitwise f (x ∷ xs) (y ∷ ys) = f x y ∷ bitwise f xs ys
+
+-- ---- saturation in two's complement: the end of the type on the side of the first operand, where the sum or difference is past it
+
+abbrev pub end_of : List Bool → ℕ
+end_of xs = if sign_bit xs then 2 ^ (length xs - 1) else 2 ^ (length xs - 1) - 1
+
+-- two operands of one sign cannot give the other
+abbrev pub signed_sum_or_end : List Bool → List Bool → List Bool → ℕ
+signed_sum_or_end xs ys sum =
+    if not (exclusive_or (sign_bit xs) (sign_bit ys)) && exclusive_or (sign_bit xs) (sign_bit sum) then end_of xs else number_of sum
+
+-- what is less an operand of the other sign cannot change its own
+abbrev pub signed_difference_or_end : List Bool → List Bool → List Bool → ℕ
+signed_difference_or_end xs ys difference =
+    if exclusive_or (sign_bit xs) (sign_bit ys) && exclusive_or (sign_bit xs) (sign_bit difference) then end_of xs else number_of difference

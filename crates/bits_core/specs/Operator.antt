@@ -1,5 +1,5 @@
--- The operators on values of fixed width, as the P4-16 specification has them: "Operations on fixed-width bit types
--- (unsigned integers)", "Operations on fixed-width signed integers", "Concatenation", "A note about shifts".
+-- The operators on numbers of fixed width: what they take, and what they give. A number stands here as its width and its
+-- value. Each part of the table names the section of the P4-16 language specification that it restates.
 use Rattle.std.specs.Prelude.{ℕ, ◌+◌, ◌-◌, ◌*◌, ◌/◌, ◌%◌, ◌^◌, ◌≤◌, ◌≡◌, ⊤, min, pos, ◌+ℤ◌, ◌-ℤ◌, ◌==◌, nat_lt, nat_le, int_lt, int_le, bit_and, bit_or, bit_xor, if◌then◌else◌}
 use Rattle.std.specs.Int.{saturate_to_bits, int_div_euclid}
 use Rattle.bits_core.specs.declared.operator.Op.{Op}
@@ -53,26 +53,33 @@ result_width Shift w v = w
 result_width Join w v = w + v
 result_width Test w v = 1
 
--- The result on x of w bits and y of v bits. Sums, differences and products wrap; the saturating ones stop at the ends of
--- the type. A shift is a product with, or a quotient by, a power of two, rounded down; by w or more it is that by w, which
--- leaves no bit of x but copies of the sign. A join has x above y. A comparison gives 1 or 0.
+-- The value of the operator's result on x of w bits and y of v bits. What is said of `signed_value` is of type `int<W>`.
 abbrev pub operator_value : Op → ℕ → ℕ → ℕ → ℕ → ℕ
+-- "Operations on fixed-width bit types" and "Operations on fixed-width signed integers": `+`, `-` and `*` wrap. The bits
+-- that wrap are the same for both types.
 operator_value Add w x v y = (x + y) % 2 ^ w
 operator_value Sub w x v y = wrapped w (pos x -ℤ pos y)
 operator_value Mul w x v y = (x * y) % 2 ^ w
+-- In the same sections: `|+|` and `|-|` saturate. On naturals `-` stops at 0; `saturate_to_bits h z` is the integer from
+-- -2^h to 2^h - 1 that is nearest to z.
 operator_value AddSatU w x v y = min (x + y) (2 ^ w - 1)
 operator_value SubSatU w x v y = x - y
 operator_value AddSatS w x v y = wrapped w (saturate_to_bits (w - 1) (signed_value w x +ℤ signed_value w y))
 operator_value SubSatS w x v y = wrapped w (saturate_to_bits (w - 1) (signed_value w x -ℤ signed_value w y))
+-- In the same sections: `&`, `|`, `^` and `~` work bit by bit, and the unary `-` is 0 less its operand.
 operator_value And w x v y = bit_and x y
 operator_value Or w x v y = bit_or x y
 operator_value Xor w x v y = bit_xor x y
 operator_value Not w x v y = 2 ^ w - 1 - x
 operator_value Neg w x v y = wrapped w (pos 0 -ℤ pos x)
+-- "A note about shifts": a shift is a product with a power of two, or a quotient by one, rounded down, of the value that
+-- the type reads. An amount of w or more leaves what w leaves: nothing of x, but for copies of a sign.
 operator_value Shl w x v y = (x * 2 ^ min y w) % 2 ^ w
 operator_value ShrU w x v y = x / 2 ^ min y w
 operator_value ShrS w x v y = wrapped w (int_div_euclid (signed_value w x) (pos (2 ^ min y w)))
+-- "Concatenation": `++` puts the bits of x above those of y.
 operator_value Cat w x v y = x * 2 ^ v + y
+-- In the first two sections: comparisons, whose Boolean is here a number of one bit.
 operator_value Eq w x v y = if x == y then 1 else 0
 operator_value LtU w x v y = if nat_lt x y then 1 else 0
 operator_value LeU w x v y = if nat_le x y then 1 else 0

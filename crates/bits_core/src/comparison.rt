@@ -43,7 +43,8 @@ pub(crate) fn less_equal_unsigned(a: Bits, b: Bits) -> Bits
 pub(crate) fn less_signed(a: Bits, b: Bits) -> Bits
     requires { a.width ≡ b.width }
     ensures width { result.width ≡ 1 }
-    ensures value { result.value ≡ (if int_lt (signed_value a.width a.value) (signed_value b.width b.value) then 1 else 0) }
+    ensures value { result.value
+        ≡ (if int_lt (signed_value a.width a.value) (signed_value b.width b.value) then 1 else 0) }
 {
     truth(biased(a) < biased(b))
 }
@@ -51,7 +52,8 @@ pub(crate) fn less_signed(a: Bits, b: Bits) -> Bits
 pub(crate) fn less_equal_signed(a: Bits, b: Bits) -> Bits
     requires { a.width ≡ b.width }
     ensures width { result.width ≡ 1 }
-    ensures value { result.value ≡ (if int_le (signed_value a.width a.value) (signed_value b.width b.value) then 1 else 0) }
+    ensures value { result.value
+        ≡ (if int_le (signed_value a.width a.value) (signed_value b.width b.value) then 1 else 0) }
 {
     truth(biased(a) <= biased(b))
 }

@@ -1,7 +1,8 @@
 // A number of a fixed width, and the cut that every row ends with.
 ghost use Rattle.std.specs.Prelude.{◌≡◌, ◌-◌, ◌%◌, ◌^◌, ◌<◌, ◌≤◌};
 
-/// A number of 1 to 128 bits.
+/// A number of 1 to 128 bits, `bit<width>` or `int<width>` of P4-16: which of the two is for the operator to say. For a
+/// signed number `value` has its two's complement.
 #[derive(Clone, Copy, Debug, PartialEq, Eq, PartialOrd, Ord, Hash)]
 pub struct Bits {
     pub width: u8,

@@ -1,6 +1,7 @@
 // The operators, their shapes, and the one table of both.
 
-/// An operator on numbers of fixed width.
+/// An operator on numbers of fixed width, as P4-16 has them on `bit<W>` and `int<W>`. Where the two types differ the name
+/// ends in U for the unsigned one and S for the signed one; `Sat` saturates in place of wrapping.
 #[derive(Clone, Copy, Debug, PartialEq, Eq, PartialOrd, Ord, Hash)]
 pub enum Op {
     Add,
@@ -54,8 +55,20 @@ pub struct Table<const N: usize> {
     pub rows: [OpRow; N],
 }
 
-/// Passes the rows of the operator table to the macro `$then`, after `$arguments`: each row is an operator, its shape and
-/// the name that its function has in every crate. A `match` written so lacks an arm where a row is missing.
+/// Passes the rows of the operator table to the macro `$then`, after `$arguments`. A row is an operator, its shape and the
+/// name of the function that does its work, which is one name in every crate. A crate with a function for each row writes
+/// in its body
+///
+/// ```text
+/// macro_rules! circuit_rows {
+///     (($of:ident) $($op:ident $shape:ident $function:ident,)*) => {
+///         match $of { $(Op::$op => $function()),* }
+///     };
+/// }
+/// operator_rows!(circuit_rows(op))
+/// ```
+///
+/// where a row that is missing leaves the `match` without an arm, and a function that is missing has no name.
 #[macro_export]
 macro_rules! operator_rows {
     ($then:ident $arguments:tt) => {

@@ -39,7 +39,8 @@ pub(crate) fn subtract_saturating_unsigned(a: Bits, b: Bits) -> Bits
 pub(crate) fn add_saturating_signed(a: Bits, b: Bits) -> Bits
     requires { a.width ≡ b.width }
     ensures width { result.width ≡ a.width }
-    ensures value { result.value ≡ wrapped a.width (saturate_to_bits (a.width - 1) (signed_value a.width a.value +ℤ signed_value b.width b.value)) }
+    ensures value { result.value
+        ≡ wrapped a.width (saturate_to_bits (a.width - 1) (signed_value a.width a.value +ℤ signed_value b.width b.value)) }
 {
     let half = half(a.width);
     let left = biased(a);
@@ -55,7 +56,8 @@ pub(crate) fn add_saturating_signed(a: Bits, b: Bits) -> Bits
 pub(crate) fn subtract_saturating_signed(a: Bits, b: Bits) -> Bits
     requires { a.width ≡ b.width }
     ensures width { result.width ≡ a.width }
-    ensures value { result.value ≡ wrapped a.width (saturate_to_bits (a.width - 1) (signed_value a.width a.value -ℤ signed_value b.width b.value)) }
+    ensures value { result.value
+        ≡ wrapped a.width (saturate_to_bits (a.width - 1) (signed_value a.width a.value -ℤ signed_value b.width b.value)) }
 {
     let half = half(a.width);
     let left = biased(a);

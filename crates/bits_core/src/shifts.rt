@@ -47,7 +47,8 @@ pub(crate) fn shift_right_unsigned(a: Bits, b: Bits) -> Bits
 /// A negative value is -(m + 1) for the number m of its bits turned round, and so is its quotient for the quotient of m.
 pub(crate) fn shift_right_signed(a: Bits, b: Bits) -> Bits
     ensures width { result.width ≡ a.width }
-    ensures value { result.value ≡ wrapped a.width (int_div_euclid (signed_value a.width a.value) (pos (2 ^ min b.value a.width))) }
+    ensures value { result.value
+        ≡ wrapped a.width (int_div_euclid (signed_value a.width a.value) (pos (2 ^ min b.value a.width))) }
 {
     let value = if is_negative(a) {
         let ones = greatest(a.width);
