@@ -1,0 +1,13 @@
+pub mod AdderLaws
+pub mod BitListLaws
+pub mod BitwiseLaws
+pub mod ComparatorLaws
+pub mod MultiplierLaws
+pub mod NumberLaws
+pub mod PartLaws
+pub mod RowLaws
+pub mod SaturationLaws
+pub mod ShifterLaws
+pub mod SignedRowLaws
+pub mod Signs
+pub mod Widths

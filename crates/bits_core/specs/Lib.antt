@@ -1,0 +1,4 @@
+pub mod BitList
+pub mod Circuit
+pub mod Number
+pub mod Operator

@@ -1,0 +1,46 @@
+// Joins, slices and changes of width.
+ghost use Rattle.std.specs.Prelude.{◌≡◌, ◌+◌, ◌-◌, ◌*◌, ◌^◌, ◌<◌, ◌≤◌};
+ghost use Rattle.bits_core.specs.Number.{slice_value, extend_value};
+
+use crate::number::{Bits, cut, greatest};
+use crate::sign::is_negative;
+
+pub(crate) fn concatenate(a: Bits, b: Bits) -> Bits
+    requires { a.width + b.width ≤ 128 }
+    ensures width { result.width ≡ a.width + b.width }
+    ensures value { result.value ≡ a.value * 2 ^ b.width + b.value }
+{
+    Bits {
+        width: a.width + b.width,
+        value: (a.value << b.width) | b.value,
+    }
+}
+
+/// The bits of `a` from place `high` down to place `low`, both among them: `a[high:low]`.
+pub fn slice(a: Bits, high: u8, low: u8) -> Bits
+    requires ordered { low ≤ high }
+    requires within { high < a.width }
+    ensures width { result.width ≡ high - low + 1 }
+    ensures value { result.value ≡ slice_value a.value high low }
+{
+    let width = high - low + 1;
+    Bits {
+        width,
+        value: cut(a.value >> low, width),
+    }
+}
+
+/// `a` cut to its lowest `width` bits, or widened: by zeros, or where `signed` by copies of its sign bit.
+pub fn extend(a: Bits, width: u8, signed: bool) -> Bits
+    requires some_bit { 1 ≤ width }
+    requires at_most_128 { width ≤ 128 }
+    ensures width { result.width ≡ width }
+    ensures value { result.value ≡ extend_value signed a.width a.value width }
+{
+    let value = if signed && is_negative(a) {
+        greatest(width) - cut(greatest(a.width) - a.value, width)
+    } else {
+        cut(a.value, width)
+    };
+    Bits { width, value }
+}

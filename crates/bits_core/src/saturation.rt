@@ -1,0 +1,71 @@
+// The rows that stop at the ends of the type.
+ghost use Rattle.std.specs.Prelude.{◌≡◌, ◌+◌, ◌-◌, ◌^◌, ◌≤◌, ◌<◌, min, ◌+ℤ◌, ◌-ℤ◌};
+ghost use Rattle.std.specs.Int.{saturate_to_bits};
+ghost use Rattle.bits_core.specs.Number.{signed_value, wrapped};
+
+use crate::number::{Bits, greatest};
+use crate::sign::{biased, from_biased, half};
+
+/// The sum, or `end` where it is greater. The sum itself may be past 2^128.
+fn sum_up_to(end: u128, x: u128, y: u128) -> u128
+    requires { x ≤ end }
+    ensures { result ≡ min (x + y) end }
+{
+    if y < end - x { x + y } else { end }
+}
+
+pub(crate) fn add_saturating_unsigned(a: Bits, b: Bits) -> Bits
+    requires { a.width ≡ b.width }
+    ensures width { result.width ≡ a.width }
+    ensures value { result.value ≡ min (a.value + b.value) (2 ^ a.width - 1) }
+{
+    Bits {
+        width: a.width,
+        value: sum_up_to(greatest(a.width), a.value, b.value),
+    }
+}
+
+pub(crate) fn subtract_saturating_unsigned(a: Bits, b: Bits) -> Bits
+    requires { a.width ≡ b.width }
+    ensures width { result.width ≡ a.width }
+    ensures value { result.value ≡ a.value - b.value }
+{
+    Bits {
+        width: a.width,
+        value: a.value.saturating_sub(b.value),
+    }
+}
+
+pub(crate) fn add_saturating_signed(a: Bits, b: Bits) -> Bits
+    requires { a.width ≡ b.width }
+    ensures width { result.width ≡ a.width }
+    ensures value { result.value
+        ≡ wrapped a.width (saturate_to_bits (a.width - 1) (signed_value a.width a.value +ℤ signed_value b.width b.value)) }
+{
+    let half = half(a.width);
+    let left = biased(a);
+    let right = biased(b);
+    let sum = if right < half {
+        left.saturating_sub(half - right)
+    } else {
+        sum_up_to(greatest(a.width), left, right - half)
+    };
+    from_biased(sum, a.width)
+}
+
+pub(crate) fn subtract_saturating_signed(a: Bits, b: Bits) -> Bits
+    requires { a.width ≡ b.width }
+    ensures width { result.width ≡ a.width }
+    ensures value { result.value
+        ≡ wrapped a.width (saturate_to_bits (a.width - 1) (signed_value a.width a.value -ℤ signed_value b.width b.value)) }
+{
+    let half = half(a.width);
+    let left = biased(a);
+    let right = biased(b);
+    let difference = if right < half {
+        sum_up_to(greatest(a.width), left, half - right)
+    } else {
+        left.saturating_sub(right - half)
+    };
+    from_biased(difference, a.width)
+}
