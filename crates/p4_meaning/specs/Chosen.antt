@@ -1,5 +1,5 @@
 -- How tests are chosen: statements are taken in order, and each test credits a statement that no earlier one does.
-use Rattle.std.specs.Prelude.{◌≡◌, ◌≢◌, ℕ, ◌<◌, ◌≤◌, ◌⊎◌, List, Option, None, Some, IsSome, length, slice_get}
+use Rattle.std.specs.Prelude.{◌≡◌, ◌≢◌, ℕ, ◌<◌, ◌≤◌, ◌⊎◌, List, Option, Some, IsSome, slice_get}
 use Rattle.p4_program.specs.declared.bounds.Bounds.{Bounds}
 use Rattle.p4_program.specs.declared.program.Program.{Program}
 use Rattle.p4_program.specs.Input.{opening_input}
@@ -22,7 +22,7 @@ pub record CoveredEarly (b : Bounds) (verdicts : List Verdict) (tests : List Tes
   pub covered : numbered verdicts statement ≡ Some (Covered number)
   pub stands : numbered tests number ≡ Some test
   pub early : (test.input ≡ opening_input b)
-    ⊎ ((least : ℕ) × (least_credit verdicts number ≡ Some least) × (least < statement))
+      ⊎ ((least : ℕ) × (least_credit verdicts number ≡ Some least) × (least < statement))
 
 -- the tests are chosen as they should be for these verdicts
 pub record Chosen (p : Program) (b : Bounds) (verdicts : List Verdict) (tests : List Test) : Type 0 where
@@ -30,12 +30,12 @@ pub record Chosen (p : Program) (b : Bounds) (verdicts : List Verdict) (tests : 
   pub credited : (test : ℕ) → IsSome (numbered tests test) → IsSome (least_credit verdicts test)
   -- the least credits of the tests rise
   pub rising : (first second s t : ℕ) → first < second
-    → least_credit verdicts first ≡ Some s → least_credit verdicts second ≡ Some t → s < t
+      → least_credit verdicts first ≡ Some s → least_credit verdicts second ≡ Some t → s < t
   -- from a test's least credit on, what its input is good for is undecided or covered by it or an earlier test
   pub earlier : (number : ℕ) (t : Test) (least statement : ℕ) (verdict : Verdict)
-    → numbered tests number ≡ Some t → least_credit verdicts number ≡ Some least → least ≤ statement
-    → Good p b t.input statement → numbered verdicts statement ≡ Some verdict
-    → (verdict ≡ Undecided) ⊎ ((by : ℕ) × (verdict ≡ Covered by) × (by ≤ number))
+      → numbered tests number ≡ Some t → least_credit verdicts number ≡ Some least → least ≤ statement
+      → Good p b t.input statement → numbered verdicts statement ≡ Some verdict
+      → (verdict ≡ Undecided) ⊎ ((by : ℕ) × (verdict ≡ Covered by) × (by ≤ number))
   -- what the opening input is good for is covered early, where it is not undecided
   pub opening : (statement : ℕ) (verdict : Verdict) → numbered verdicts statement ≡ Some verdict
-    → verdict ≢ Undecided → Good p b (opening_input b) statement → CoveredEarly b verdicts tests statement
+      → verdict ≢ Undecided → Good p b (opening_input b) statement → CoveredEarly b verdicts tests statement

@@ -8,7 +8,6 @@ use Rattle.p4_meaning.specs.declared.outcome.Outcome.{Outcome}
 use Rattle.p4_meaning.specs.declared.outcome.Outcome.TheVariants as outcome
 use Rattle.p4_meaning.specs.declared.test.Expected.{Expected}
 use Rattle.p4_meaning.specs.declared.test.Expected.TheVariants as expected
-use Rattle.p4_meaning.specs.declared.test.Nibble.{Nibble}
 use Rattle.p4_meaning.specs.declared.test.Nibble.TheVariants.{Masked}
 use Rattle.p4_meaning.specs.declared.test.Test.{Test}
 use Rattle.p4_meaning.specs.Expected.{AllowsAll, digits_of}

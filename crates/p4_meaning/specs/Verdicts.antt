@@ -1,5 +1,5 @@
 -- Verdicts that are right, and what they credit to tests.
-use Rattle.std.specs.Prelude.{◌≡◌, ℕ, Bool, true, false, ◌==◌, List, [], ◌∷◌, Some, length, Contains, if◌then◌else◌}
+use Rattle.std.specs.Prelude.{◌≡◌, ℕ, Bool, false, ◌==◌, List, [], ◌∷◌, Some, length, Contains, if◌then◌else◌}
 use Prim.Native.Nat.{suc}
 use Rattle.p4_program.specs.declared.bounds.Bounds.{Bounds}
 use Rattle.p4_program.specs.declared.input.Input.{Input}
@@ -35,7 +35,7 @@ RightVerdict p b tests statement Undecided = Unit {0}
 pub record RightVerdicts (p : Program) (b : Bounds) (verdicts : List Verdict) (tests : List Test) : Type 0 where
   pub one_each : length verdicts ≡ length p.statements
   pub right : (statement : ℕ) (verdict : Verdict) → numbered verdicts statement ≡ Some verdict
-    → RightVerdict p b tests statement verdict
+      → RightVerdict p b tests statement verdict
 
 -- the verdict names this test
 abbrev pub is_covered_by : ℕ → Verdict → Bool

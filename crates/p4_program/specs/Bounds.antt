@@ -1,5 +1,5 @@
 -- The bounds of a job.
-use Rattle.std.specs.Prelude.{◌≡◌, ℕ}
+use Rattle.std.specs.Prelude.{◌≡◌}
 use Rattle.p4_program.specs.declared.bounds.Bounds.{Bounds}
 
 -- the bounds where no option stands

@@ -1,5 +1,5 @@
 -- Inputs within the bounds.
-use Rattle.std.specs.Prelude.{ℕ, ◌≤◌, ◌<◌, length, List, replicate, min}
+use Rattle.std.specs.Prelude.{◌≤◌, length, replicate, min}
 use Rattle.p4_program.specs.declared.bounds.Bounds.{Bounds}
 use Rattle.p4_program.specs.declared.input.Input.{Input}
 use Rattle.p4_program.specs.declared.program.Program.{Program}

@@ -1,9 +1,9 @@
 -- Lemmas on verdicts and tests: one test of the opening input, which is credited with every statement, is right
 -- and chosen as it should be.
-use Rattle.std.proofs.Common.{◌≡◌, ◌≢◌, ℕ, ◌+◌, ◌-◌, ◌*◌, ◌/◌, ◌%◌, ◌<◌, ◌≤◌, Bool, true, false, List, [], ◌∷◌, Option, None, Some, IsSome, length, map, get_or, replicate, min, ◌⊎◌, inl, inr, refl, ap, sym, ◌∙◌, subst, arith, if◌then◌else◌}
+use Rattle.std.proofs.Common.{◌≡◌, ℕ, ◌≤◌, true, false, List, [], ◌∷◌, None, Some, IsSome, length, map, replicate, min, inl, inr, refl, ap, sym, ◌∙◌, subst, arith, if◌then◌else◌}
 use Prim.Native.Nat.{zero, suc}
 use Rattle.std.proofs.Math.Dec.{eqb}
-use Rattle.std.proofs.lemmas.Bool.{false≢true, eqb-true, eq-eqb}
+use Rattle.std.proofs.lemmas.Bool.{eqb-true}
 use Rattle.std.proofs.lemmas.List.{length-replicate, get_or-replicate}
 use Rattle.std.specs.List.{Contains, slice_get}
 use Rattle.p4_program.specs.declared.bounds.Bounds.{Bounds}
@@ -11,21 +11,19 @@ use Rattle.p4_program.specs.declared.input.Input.{Input}
 use Rattle.p4_program.specs.declared.program.Program.{Program}
 use Rattle.p4_program.specs.Input.{Bounded, opening_input}
 use Rattle.p4_program.specs.Numbered.{numbered}
-use Rattle.p4_meaning.specs.declared.outcome.Outcome.{Outcome}
 use Rattle.p4_meaning.specs.declared.outcome.Outcome.TheVariants as outcome
-use Rattle.p4_meaning.specs.declared.test.Expected.{Expected}
 use Rattle.p4_meaning.specs.declared.test.Expected.TheVariants as expected
 use Rattle.p4_meaning.specs.declared.test.Nibble.TheVariants.{Fixed}
 use Rattle.p4_meaning.specs.declared.test.Test.{Test}
 use Rattle.p4_meaning.specs.declared.verdict.Verdict.{Verdict}
 use Rattle.p4_meaning.specs.declared.verdict.Verdict.TheVariants as verdict
-use Rattle.p4_meaning.specs.Chosen.{least_credit, CoveredEarly, Chosen}
+use Rattle.p4_meaning.specs.Chosen.{least_credit, Chosen}
 use Rattle.p4_meaning.specs.Expected.{digits_of}
 use Rattle.p4_meaning.specs.Good.{Good}
 use Rattle.p4_meaning.specs.Run.{Run}
 use Rattle.p4_meaning.specs.Test.{Agrees, Holds, Tight, TightFor}
-use Rattle.p4_meaning.specs.Verdicts.{RightVerdict, RightVerdicts, credits, credits_from}
-use Rattle.testgen_engine.specs.Decide.{egress_after, expected_at, IsOpening}
+use Rattle.p4_meaning.specs.Verdicts.{RightVerdict, RightVerdicts, credits_from}
+use Rattle.testgen_engine.specs.Decide.{expected_at, IsOpening}
 use Rattle.testgen_engine.specs.Findings.{Findings, AreRight, IsUndecided}
 use Rattle.testgen_engine.specs.Log.{HasUndecided, Lawful}
 use Rattle.testgen_engine.proofs.DigitLemmas.{AllowsAll-fixed, fixed_not_masked, fixed_not_undecided}
@@ -65,8 +63,8 @@ credits_of_other first (suc count) test e = rw e (credits_of_other (suc first) c
 least_of : (count test least : ℕ) → least_credit (all_covered count) test ≡ Some least → test ≡ 1
 least_of count test least e =
     elim (eqb 1 test) as (λ b. eqb 1 test ≡ b → test ≡ 1) [
-      true ↦ λ same. sym (eqb-true 1 test same)
-    | false ↦ λ other. let none : Some least ≡ None = sym e ∙ ap (λ xs. slice_get xs 0) (credits_of_other 1 count test other) in cc
+      | true ↦ λ same. sym (eqb-true 1 test same)
+      | false ↦ λ other. let none : Some least ≡ None = sym e ∙ ap (λ xs. slice_get xs 0) (credits_of_other 1 count test other) in cc
     ] refl
 
 some_least : (count : ℕ) → 1 ≤ count → IsSome (least_credit (all_covered count) 1)
@@ -101,24 +99,24 @@ found p b tests = record { bounds = b; program = p; verdicts = all_covered (leng
 agrees : (value : ℕ) (packet : List ℕ) → Agrees (expected_at value packet) (outcome_at value packet)
 agrees value packet =
     elim (eqb value 511) as (λ b. Agrees (if b then expected.Drop else expected.Packet value (map Fixed (digits_of packet))) (if b then outcome.Dropped else outcome.Sent value packet)) [
-      true ↦ refl
-    | false ↦ (packet, refl, AllowsAll-fixed (digits_of packet))
+      | true ↦ refl
+      | false ↦ (packet, refl, AllowsAll-fixed (digits_of packet))
     ]
 
 holds : (p : Program) (b : Bounds) (t : Test) → IsOpening p b t → Holds p b t
 holds p b t o = record {
   bounded = subst (Bounded p b) (sym o.input) (opening_bounded p b);
   each = λ out marks run.
-    let x = opening_input b in
-    let run_at = subst (λ i. Run p b i out marks) o.input run in
-    subst (λ e. Agrees e out) (sym o.expects) (subst (Agrees (expected_at (egress p) x.packet)) (sym (run_is p b x out marks run_at).0) (agrees (egress p) x.packet));
+      let x = opening_input b in
+      let run_at = subst (λ i. Run p b i out marks) o.input run in
+      subst (λ e. Agrees e out) (sym o.expects) (subst (Agrees (expected_at (egress p) x.packet)) (sym (run_is p b x out marks run_at).0) (agrees (egress p) x.packet));
 }
 
 tight_at : (p : Program) (b : Bounds) (x : Input) (value : ℕ) (packet : List ℕ) → TightFor p b x (expected_at value packet)
 tight_at p b x value packet =
     elim (eqb value 511) as (λ t. TightFor p b x (if t then expected.Drop else expected.Packet value (map Fixed (digits_of packet)))) [
-      true ↦ tt
-    | false ↦ λ place masked. absurd (fixed_not_masked (digits_of packet) place masked)
+      | true ↦ tt
+      | false ↦ λ place masked. absurd (fixed_not_masked (digits_of packet) place masked)
     ]
 
 tight : (p : Program) (b : Bounds) (t : Test) → IsOpening p b t → Tight p b t
@@ -127,8 +125,8 @@ tight p b t o = subst (TightFor p b t.input) (sym o.expects) (tight_at p b t.inp
 decided_at : (value : ℕ) (packet : List ℕ) → HasUndecided (expected_at value packet) → ⊥
 decided_at value packet =
     elim (eqb value 511) as (λ t. HasUndecided (if t then expected.Drop else expected.Packet value (map Fixed (digits_of packet))) → ⊥) [
-      true ↦ λ h. h
-    | false ↦ λ h. fixed_not_undecided (digits_of packet) h.0 h.1 h.2
+      | true ↦ λ h. h
+      | false ↦ λ h. fixed_not_undecided (digits_of packet) h.0 h.1 h.2
     ]
 
 decided : (p : Program) (b : Bounds) (t : Test) → IsOpening p b t → HasUndecided t.expected → ⊥
@@ -148,8 +146,8 @@ right_verdicts : (p : Program) (b : Bounds) (t : Test) → IsOpening p b t → R
 right_verdicts p b t o = record {
   one_each = length-replicate (length p.statements) (verdict.Covered 1);
   right = λ statement v e.
-    let named = numbered-replicate (length p.statements) statement (verdict.Covered 1) v e in
-    subst (RightVerdict p b (t ∷ []) statement) (sym named.2) (t, refl, test_good p b t o statement named.0 named.1);
+      let named = numbered-replicate (length p.statements) statement (verdict.Covered 1) v e in
+      subst (RightVerdict p b (t ∷ []) statement) (sym named.2) (t, refl, test_good p b t o statement named.0 named.1);
 }
 
 chosen : (p : Program) (b : Bounds) (t : Test) → IsOpening p b t → 1 ≤ length p.statements → Chosen p b (all_covered (length p.statements)) (t ∷ [])
@@ -158,20 +156,20 @@ chosen p b t o some =
     record {
       credited = λ test h. credited_one count test t some h;
       rising = λ first second s u less e f.
-        let one = least_of count first s e in let two = least_of count second u f in absurd (omega arith);
+          let one = least_of count first s e in let two = least_of count second u f in absurd (omega arith);
       earlier = λ number test least statement v e f low good g.
-        let named = numbered-replicate count statement (verdict.Covered 1) v g in
-        let one = (numbered_one t test number e).0 in
-        inr (1, named.2, omega arith);
+          let named = numbered-replicate count statement (verdict.Covered 1) v g in
+          let one = (numbered_one t test number e).0 in
+          inr (1, named.2, omega arith);
       opening = λ statement v e other good.
-        let named = numbered-replicate count statement (verdict.Covered 1) v e in
-        record {
-          number = 1;
-          test = t;
-          covered = e ∙ ap Some named.2;
-          stands = refl;
-          early = inl o.input;
-        };
+          let named = numbered-replicate count statement (verdict.Covered 1) v e in
+          record {
+            number = 1;
+            test = t;
+            covered = e ∙ ap Some named.2;
+            stands = refl;
+            early = inl o.input;
+          };
     }
 
 lawful : (p : Program) (b : Bounds) (t : Test) → IsOpening p b t → Lawful b (all_covered (length p.statements)) (t ∷ []) []
@@ -179,12 +177,12 @@ lawful p b t o =
     let budget = b.some_budget in
     record {
       statements = λ statement v e.
-        let named = numbered-replicate (length p.statements) statement (verdict.Covered 1) v e in
-        (λ undecided. let same : verdict.Covered 1 ≡ verdict.Undecided = sym named.2 ∙ undecided in cc, λ spent. absurd (omega arith));
+          let named = numbered-replicate (length p.statements) statement (verdict.Covered 1) v e in
+          (λ undecided. let same : verdict.Covered 1 ≡ verdict.Undecided = sym named.2 ∙ undecided in cc, λ spent. absurd (omega arith));
       within = λ statement. omega arith;
       nibbles = λ number test e undecided.
-        let named = (numbered_one t test number e).1 in
-        absurd (decided p b t o (subst (λ u. HasUndecided u.expected) (sym named) undecided));
+          let named = (numbered_one t test number e).1 in
+          absurd (decided p b t o (subst (λ u. HasUndecided u.expected) (sym named) undecided));
     }
 
 -- what is found of a program with statements is right
@@ -234,10 +232,10 @@ pub decided_right : (p : Program) (b : Bounds) (t : Test) (count : ℕ) (verdict
     → IsOpening p b t → 1 ≤ length p.statements → AreRight (record { bounds = b; program = p; verdicts = verdicts; tests = tests; log = [] })
 decided_right p b t count verdicts tests as_many all one o some =
     subst (λ vs. AreRight (record { bounds = b; program = p; verdicts = vs; tests = tests; log = [] })) (sym (all ∙ ap all_covered as_many))
-      (subst (λ ts. AreRight (record { bounds = b; program = p; verdicts = all_covered (length p.statements); tests = ts; log = [] })) (sym one) (found_right p b t o some))
+    (subst (λ ts. AreRight (record { bounds = b; program = p; verdicts = all_covered (length p.statements); tests = ts; log = [] })) (sym one) (found_right p b t o some))
 
 pub decided_decided : (p : Program) (b : Bounds) (t : Test) (count : ℕ) (verdicts : List Verdict) (tests : List Test) → count ≡ length p.statements → verdicts ≡ all_covered count → tests ≡ t ∷ []
     → IsOpening p b t → IsUndecided (record { bounds = b; program = p; verdicts = verdicts; tests = tests; log = [] }) → ⊥
 decided_decided p b t count verdicts tests as_many all one o u =
     found_decided p b t o (subst (λ ts. IsUndecided (record { bounds = b; program = p; verdicts = all_covered (length p.statements); tests = ts; log = [] })) one
-      (subst (λ vs. IsUndecided (record { bounds = b; program = p; verdicts = vs; tests = tests; log = [] })) (all ∙ ap all_covered as_many) u))
+    (subst (λ vs. IsUndecided (record { bounds = b; program = p; verdicts = vs; tests = tests; log = [] })) (all ∙ ap all_covered as_many) u))

@@ -1,12 +1,12 @@
 -- Lemmas on numbers at the front of a text.
-use Rattle.std.proofs.Common.{◌≡◌, ◌≢◌, ℕ, ◌+◌, ◌-◌, ◌*◌, ◌^◌, ◌<◌, ◌≤◌, Bool, true, false, cond, ◌&&◌, List, [], ◌∷◌, ◌++◌, length, get_or, take, drop, refl, ap, sym, ◌∙◌, subst, arith, rules, length-take, get_or-take}
+use Rattle.std.proofs.Common.{◌≡◌, ℕ, ◌+◌, ◌-◌, ◌<◌, ◌≤◌, true, false, cond, ◌&&◌, List, [], ◌∷◌, ◌++◌, length, get_or, take, drop, refl, ap, sym, ◌∙◌, subst, arith, length-take, get_or-take}
 use Rattle.std.proofs.lemmas.Fmt.{digits_decimal, decimal_injective, decimal-digits_value, digits_value-decimal, decimal_nonempty, length-decimal-le, first_decimal, decimal_digit}
 use Rattle.std.proofs.lemmas.Str.Parse.{IsNumeralModel, numerals_by_value, tells_digits, tells_by_index, tells_all_ascii_digits}
 use Prim.Native.Nat.{zero, suc}
 use Rattle.std.proofs.Math.Seq.{take-append_seam}
 use Rattle.std.proofs.lemmas.List.{take-append-drop}
 use Rattle.testgen_engine.proofs.Lists.{append_left_injective}
-use Rattle.std.proofs.lemmas.List.Sums.{prefix_len_passes, prefix_len-le-length}
+use Rattle.std.proofs.lemmas.List.Sums.{prefix_len_passes}
 use Rattle.std.proofs.lemmas.Bool.Decides.{nat_tests}
 use Rattle.std.specs.Char.{is_ascii_digit, digit_value}
 use Rattle.std.specs.Fmt.{decimal}
@@ -28,8 +28,8 @@ pub prefix_len-digits : (ds rest : List ℕ) → all_ascii_digits ds ≡ true �
 prefix_len-digits [] rest all stop = stop
 prefix_len-digits (c ∷ cs) rest all stop =
     elim (is_ascii_digit c) as (λ b. (b && all_ascii_digits cs) ≡ true → cond b (1 + prefix_len is_ascii_digit (cs ++ rest)) 0 ≡ suc (length cs)) [
-      true ↦ λ h. omega (arith, prefix_len-digits cs rest h stop)
-    | false ↦ λ h. cc
+      | true ↦ λ h. omega (arith, prefix_len-digits cs rest h stop)
+      | false ↦ λ h. cc
     ] all
 
 -- what follows the digits does not begin with one
@@ -37,8 +37,8 @@ pub digits_end : (text : List ℕ) → StartsNoDigit (drop (prefix_len is_ascii_
 digits_end [] = refl
 digits_end (c ∷ cs) =
     elim (is_ascii_digit c) as (λ b. is_ascii_digit c ≡ b → StartsNoDigit (drop (cond b (1 + prefix_len is_ascii_digit cs) 0) (c ∷ cs))) [
-      true ↦ λ h. let e : 1 + prefix_len is_ascii_digit cs ≡ suc (prefix_len is_ascii_digit cs) = omega arith in rw e (digits_end cs)
-    | false ↦ λ h. rw h refl
+      | true ↦ λ h. let e : 1 + prefix_len is_ascii_digit cs ≡ suc (prefix_len is_ascii_digit cs) = omega arith in rw e (digits_end cs)
+      | false ↦ λ h. rw h refl
     ] refl
 
 -- a byte that passes the test is a digit
@@ -53,9 +53,9 @@ digit_value-digit c h = grind (arith, nat_tests)
 pub AllDigits-front : (text : List ℕ) → AllDigits 10 (take (prefix_len is_ascii_digit text) text)
 AllDigits-front text =
     (numerals_by_value (λ ds. (i : ℕ) → i < length ds → IsInRange 48 57 (get_or ds i 0)) tells_by_index).to _ (λ i h.
-      let n = prefix_len is_ascii_digit text in
-      let within : i < n = omega (arith, length-take n text) in
-      rw (get_or-take n text i 0 within) (digit_range (get_or text i 0) (prefix_len_passes is_ascii_digit text i 0 within)))
+    let n = prefix_len is_ascii_digit text in
+    let within : i < n = omega (arith, length-take n text) in
+    rw (get_or-take n text i 0 within) (digit_range (get_or text i 0) (prefix_len_passes is_ascii_digit text i 0 within)))
 
 -- a number is counted to its last digit
 number_len : (value : ℕ) (rest : List ℕ) → value < 512 → StartsNoDigit rest → prefix_len is_ascii_digit (decimal value ++ rest) ≡ length (decimal value)

@@ -1,5 +1,5 @@
 -- Lemmas on how a call may end.
-use Rattle.std.proofs.Common.{◌≡◌, ℕ, ◌+◌, ◌*◌, ◌^◌, ◌<◌, ◌≤◌, List, [], ◌∷◌, ◌++◌, Option, None, Some, Result, Ok, Err, OnOk, OnErr, IfOk, length, take, ◌⊎◌, inl, inr, refl, ap, sym, ◌∙◌, subst, arith, length-append, length-take}
+use Rattle.std.proofs.Common.{◌≡◌, ℕ, ◌*◌, ◌≤◌, List, [], ◌∷◌, ◌++◌, Option, None, Some, Result, Ok, Err, OnOk, OnErr, IfOk, length, take, ◌⊎◌, inl, inr, refl, ap, sym, ◌∙◌, subst, arith, length-append, length-take}
 use Rattle.std.proofs.lemmas.Fmt.{length-decimal-le}
 use Rattle.std.proofs.lemmas.List.{take_all}
 use Rattle.std.specs.Fmt.{decimal}
@@ -17,14 +17,14 @@ use Rattle.testgen_engine.specs.declared.decide.Decided.{Decided}
 use Rattle.p4_program.specs.declared.program.Program.{Program}
 use Rattle.p4_program.specs.declared.program.StatementKind.{StatementKind}
 use Rattle.p4_program.specs.declared.program.StatementKind.TheVariants.{AssignEgressSpec, MarkToDrop}
-use Rattle.testgen_engine.specs.Endings.{HasFile, IsFound, Finishes, Misspells, Refuses, FailsToRead, Ends, EndsSomehow, IsCutShort, Completes, RefusesWhole, not_built}
-use Rattle.testgen_engine.specs.Findings.{Findings, AreRight, IsUndecided, text_of}
+use Rattle.testgen_engine.specs.Endings.{HasFile, IsFound, Finishes, Ends, EndsSomehow, IsCutShort, Completes, RefusesWhole, not_built}
+use Rattle.testgen_engine.specs.Findings.{AreRight, IsUndecided, text_of}
 use Rattle.testgen_engine.specs.Notes.{usage_note, read_fault_note, refusal_note}
 use Rattle.testgen_engine.specs.Outputs.{Adds, AddsFronts, AddsNothing, AddsText, AddsTextFront, only}
-use Rattle.testgen_engine.specs.Skeleton.{head_text, tail_text, assign_text, drop_text, end_text, line_text, FitsNineBits, source_text, StandsFor, IsNotBuilt}
+use Rattle.testgen_engine.specs.Skeleton.{head_text, tail_text, assign_text, drop_text, end_text, line_text, FitsNineBits, StandsFor, IsNotBuilt}
 use Rattle.testgen_engine.specs.Status.{status_of}
 use Rattle.testgen_engine.specs.declared.generate.Status.{Status}
-use Rattle.testgen_engine.specs.declared.generate.Status.TheVariants.{Done, WrongWords, Refused, ReadFault}
+use Rattle.testgen_engine.specs.declared.generate.Status.TheVariants.{Done}
 use Rattle.testgen_engine.specs.Words.{AsksGen, AsksNothing}
 
 -- texts that are such are also such
@@ -99,11 +99,11 @@ pub answer_found : {E : Type 0} (old new : Out → Option (List ℕ)) (files : O
 answer_found old new files words name whole source before now p asks has e stands r told ok err =
     let finishes = found_finishes files words name whole p asks has (accepted_whole source whole p e stands) in
     match_told (λ status. AddsText old new (Ends files words before now (status_of status))) r Done told ok err
-      (adds_map old new (IsFound p) (Ends files words before now 0) (λ text f. inl (finishes text f)))
-      (elim [
-        inl nothing ↦ inl nothing
+    (adds_map old new (IsFound p) (Ends files words before now 0) (λ text f. inl (finishes text f)))
+    (elim [
+      | inl nothing ↦ inl nothing
       | inr front ↦ inr (fronts_map old new (IsFound p) (EndsSomehow files words before now) (λ text f. (0, inl (finishes text f))) front)
-      ])
+    ])
 
 -- one note, and nothing else
 note_end : (old new : Out → Option (List ℕ)) (note : List ℕ) (P : (Out → List ℕ) → Type 0) → P (only out.Notes note) → Adds old new (only out.Notes note) → AddsText old new P
@@ -119,14 +119,20 @@ pub told_note : {E : Type 0} (old new : Out → Option (List ℕ)) (files : Opti
     → MatchResult r (λ s. AddsText old new (Ends files words before now (status_of s))) (λ _. IsCutShort files words before now old new)
 told_note old new files words before now note status end r told ok err =
     match_told (λ s. AddsText old new (Ends files words before now (status_of s))) r status told ok err
-      (note_end old new note (Ends files words before now (status_of status)) end)
-      (λ h. inr (note_front old new note (EndsSomehow files words before now) (status_of status, end) h))
+    (note_end old new note (Ends files words before now (status_of status)) end)
+    (λ h. inr (note_front old new note (EndsSomehow files words before now) (status_of status, end) h))
 
 -- the notes of a refusal, of wrong words and of a read fault are ends
 pub refused_end : (files : Option (List ℕ → Option (List ℕ))) (words : List (List ℕ)) (name whole source : List ℕ) (before now : ℕ) → AsksGen words name → HasFile files name whole → source ≡ take 262145 whole → IsNotBuilt source
     → Ends files words before now 2 (only out.Notes (refusal_note not_built))
 refused_end files words name whole source before now asks has e none = inr (inr (inl (record {
-  ended = refl; name = name; asks = asks; bytes = whole; source = has; refused = refused_whole source whole e none; texts = λ o. refl;
+  ended = refl;
+  name = name;
+  asks = asks;
+  bytes = whole;
+  source = has;
+  refused = refused_whole source whole e none;
+  texts = λ o. refl;
 })))
 
 pub usage_end : (files : Option (List ℕ → Option (List ℕ))) (words : List (List ℕ)) (before now : ℕ) → AsksNothing words → Ends files words before now 1 (only out.Notes usage_note)
@@ -182,10 +188,10 @@ pub completes_from : (files : Option (List ℕ → Option (List ℕ))) (words : 
 completes_from None words rb rn wb wn status old new h = tt
 completes_from (Some files) words rb rn wb wn status old new h = λ name bytes p asks has stands no_read no_write.
     elim h.right [
-      inl finishes ↦ elim finishes.ended [ inl zero ↦ inl zero | inr three ↦ inr (inl three) ]
-    | inr (inl misspells) ↦ absurd (misspells.asks name asks)
-    | inr (inr (inl refuses)) ↦ absurd (refuses.refused p (subst (λ bs. StandsFor bs p) (same_bytes files words name refuses.name bytes refuses.bytes asks refuses.asks has refuses.source) stands))
-    | inr (inr (inr fails)) ↦ absurd (no_read fails.rose)
+      | inl finishes ↦ elim finishes.ended [ inl zero ↦ inl zero | inr three ↦ inr (inl three) ]
+      | inr (inl misspells) ↦ absurd (misspells.asks name asks)
+      | inr (inr (inl refuses)) ↦ absurd (refuses.refused p (subst (λ bs. StandsFor bs p) (same_bytes files words name refuses.name bytes refuses.bytes asks refuses.asks has refuses.source) stands))
+      | inr (inr (inr fails)) ↦ absurd (no_read fails.rose)
     ]
 
 -- and refuses any other
@@ -194,8 +200,8 @@ pub refuses_from : (files : Option (List ℕ → Option (List ℕ))) (words : Li
 refuses_from None words rb rn wb wn status old new h = tt
 refuses_from (Some files) words rb rn wb wn status old new h = λ name bytes asks has none no_read no_write.
     elim h.right [
-      inl finishes ↦ absurd (none finishes.findings.program (subst (λ bs. StandsFor bs finishes.findings.program) (same_bytes files words finishes.name name finishes.bytes bytes finishes.asks asks finishes.source has) finishes.program))
-    | inr (inl misspells) ↦ absurd (misspells.asks name asks)
-    | inr (inr (inl refuses)) ↦ inl refuses.ended
-    | inr (inr (inr fails)) ↦ absurd (no_read fails.rose)
+      | inl finishes ↦ absurd (none finishes.findings.program (subst (λ bs. StandsFor bs finishes.findings.program) (same_bytes files words finishes.name name finishes.bytes bytes finishes.asks asks finishes.source has) finishes.program))
+      | inr (inl misspells) ↦ absurd (misspells.asks name asks)
+      | inr (inr (inl refuses)) ↦ inl refuses.ended
+      | inr (inr (inr fails)) ↦ absurd (no_read fails.rose)
     ]

@@ -1,14 +1,13 @@
 -- Lemmas on the lines of statements: a text has one line at its front, and one list of statements.
-use Rattle.std.proofs.Common.{◌≡◌, ◌≢◌, ℕ, ◌+◌, ◌<◌, ◌≤◌, List, [], ◌∷◌, ◌++◌, length, get_or, take, refl, ap, sym, ◌∙◌, subst, append_assoc, length-append, arith}
+use Rattle.std.proofs.Common.{◌≡◌, ◌≢◌, ℕ, ◌+◌, ◌<◌, List, [], ◌∷◌, ◌++◌, length, get_or, refl, ap, sym, ◌∙◌, subst, append_assoc, length-append, arith}
 use Prim.Native.Nat.{suc}
 use Rattle.std.proofs.lemmas.Bool.{false≢true, eq-eqb}
 use Rattle.std.specs.Fmt.{decimal}
 use Rattle.std.specs.List.{flat_map, AllByRecursion}
 use Rattle.p4_program.specs.declared.program.Program.{Program}
-use Rattle.p4_program.specs.declared.program.Statement.{Statement}
 use Rattle.p4_program.specs.declared.program.StatementKind.{StatementKind}
 use Rattle.p4_program.specs.declared.program.StatementKind.TheVariants.{AssignEgressSpec, MarkToDrop}
-use Rattle.testgen_engine.specs.Skeleton.{head_text, tail_text, assign_text, drop_text, end_text, line_text, FitsNineBits, source_text, placed_from, StandsFor, IsNotBuilt}
+use Rattle.testgen_engine.specs.Skeleton.{head_text, tail_text, assign_text, drop_text, end_text, line_text, FitsNineBits, placed_from, StandsFor, IsNotBuilt}
 use Rattle.testgen_engine.specs.Lines.{StartsNoDigit, IsNumberAt, IsNoNumber, IsLineAt, IsNoLine, IsBody, IsNoBody}
 use Rattle.testgen_engine.proofs.Digits.{same_number}
 use Rattle.testgen_engine.proofs.Lists.{append_left_injective}
@@ -32,7 +31,7 @@ number_of_line : (text number rest : List ℕ) (value : ℕ) → text ≡ assign
 number_of_line text number rest value e h = record {
   nine_bits = h.fits;
   whole = append_left_injective assign_text number (decimal value ++ (end_text ++ rest))
-    (sym e ∙ h.whole ∙ append_assoc assign_text (decimal value ++ end_text) rest ∙ ap (λ xs. assign_text ++ xs) (append_assoc (decimal value) end_text rest));
+      (sym e ∙ h.whole ∙ append_assoc assign_text (decimal value ++ end_text) rest ∙ ap (λ xs. assign_text ++ xs) (append_assoc (decimal value) end_text rest));
   ends = after_number rest;
 }
 
@@ -41,7 +40,7 @@ pub assignment_at : (text number end rest : List ℕ) (value : ℕ) → text ≡
 assignment_at text number end rest value e h f = record {
   fits = h.nine_bits;
   whole = e ∙ ap (λ xs. assign_text ++ xs) (h.whole ∙ ap (λ xs. decimal value ++ xs) f ∙ sym (append_assoc (decimal value) end_text rest))
-    ∙ sym (append_assoc assign_text (decimal value ++ end_text) rest);
+      ∙ sym (append_assoc assign_text (decimal value ++ end_text) rest);
 }
 
 -- a text that is no drop and no assignment begins with no line
@@ -99,7 +98,7 @@ same_lines [] (b ∷ ls) x y p q h k e = absurd (h b (flat_map line_text ls ++ y
 same_lines (a ∷ ks) [] x y p q h k e = absurd (k a (flat_map line_text ks ++ x) (subst (λ t. IsLineAt t a (flat_map line_text ks ++ x)) e (line_at_front a ks x p.0)))
 same_lines (a ∷ ks) (b ∷ ls) x y p q h k e =
     let first = same_line (flat_map line_text (a ∷ ks) ++ x) a b (flat_map line_text ks ++ x) (flat_map line_text ls ++ y) (line_at_front a ks x p.0)
-      (subst (λ t. IsLineAt t b (flat_map line_text ls ++ y)) (sym e) (line_at_front b ls y q.0)) in
+    (subst (λ t. IsLineAt t b (flat_map line_text ls ++ y)) (sym e) (line_at_front b ls y q.0)) in
     let others = same_lines ks ls x y p.1 q.1 h k first.1 in
     (cc (first.0, others.0), others.1)
 

@@ -1,10 +1,10 @@
 -- Lemmas on what calls add to outputs.
-use Rattle.std.proofs.Common.{◌≡◌, ◌≢◌, ℕ, Bool, true, false, cond, if◌then◌else◌, List, [], ◌∷◌, ◌++◌, Option, None, Some, refl, ap, sym, ◌∙◌, subst, append_assoc, rules, arith, Result, Ok, Err, OnOk, OnErr, append-nil}
+use Rattle.std.proofs.Common.{◌≡◌, ◌≢◌, ℕ, true, false, if◌then◌else◌, List, [], ◌++◌, Option, None, Some, refl, ap, sym, ◌∙◌, subst, append_assoc, rules, Result, Ok, Err, OnOk, OnErr, append-nil}
 use Rattle.std.proofs.lemmas.Bool.{eqb-true, eq-eqb, false≢true}
 use Rattle.tg_base.specs.declared.desk.Out.{Out}
 use Rattle.tg_base.specs.declared.desk.Out.TheVariants.{Report, Proofs, Test, Notes}
 use Rattle.tg_base.specs.Content.{with_piece}
-use Rattle.testgen_engine.specs.Outputs.{is_same, only, Adds, AddsFront, AddsFronts}
+use Rattle.testgen_engine.specs.Outputs.{is_same, only, Adds, AddsFronts}
 
 pub with_piece-twice : (o : Option (List ℕ)) (a b : List ℕ) → with_piece (with_piece o a) b ≡ with_piece o (a ++ b)
 with_piece-twice None a b = refl
@@ -52,8 +52,8 @@ pub adds_piece : (old new : Out → Option (List ℕ)) (out : Out) (piece : List
     → ((other : Out) → other ≢ out → new other ≡ old other) → Adds old new (only out piece)
 adds_piece old new out piece at others = λ other.
     elim (is_same out other) as (λ b. is_same out other ≡ b → new other ≡ with_piece (old other) (if b then piece else [])) [
-      true ↦ λ h. subst (λ o. new o ≡ with_piece (old o) piece) (same-is_same out other h) at
-    | false ↦ λ h. others other (λ e. false≢true (sym h ∙ subst (λ o. is_same o other ≡ true) e (is_same-same other))) ∙ sym (with_piece-nil (old other))
+      | true ↦ λ h. subst (λ o. new o ≡ with_piece (old o) piece) (same-is_same out other h) at
+      | false ↦ λ h. others other (λ e. false≢true (sym h ∙ subst (λ o. is_same o other ≡ true) e (is_same-same other))) ∙ sym (with_piece-nil (old other))
     ] refl
 
 -- a text in two parts
@@ -71,7 +71,7 @@ pub adds_more : (first second third : Out → Option (List ℕ)) (out : Out) (fr
     → Adds first third (only out (front ++ piece))
 adds_more first second third out front piece h at others =
     adds_equal first third _ _ (λ other. only-append out other front piece)
-      (adds_both first second third _ _ h (adds_piece second third out piece at others))
+    (adds_both first second third _ _ h (adds_piece second third out piece at others))
 
 -- where nothing is written, fronts of any texts are
 pub adds_no_front : (old : Out → Option (List ℕ)) (text : Out → List ℕ) → AddsFronts old old text

@@ -1,5 +1,5 @@
 -- Lemmas on what a job adds to each output: the tests, and then the report.
-use Rattle.std.proofs.Common.{◌≡◌, ℕ, ◌+◌, ◌<◌, ◌≤◌, Bool, true, false, List, [], ◌∷◌, ◌++◌, Option, None, Some, inl, inr, length, get_or, drop, refl, ap, sym, ◌∙◌, subst, append-nil, add-one, arith}
+use Rattle.std.proofs.Common.{◌≡◌, ℕ, ◌+◌, ◌<◌, false, List, [], ◌∷◌, ◌++◌, Option, inl, inr, length, get_or, drop, refl, ap, sym, ◌∙◌, subst, append-nil, add-one, arith}
 use Rattle.std.proofs.Math.Seq.{drop-cons}
 use Prim.Native.Nat.{zero, suc}
 use Rattle.std.proofs.Math.Dec.{eqb}
@@ -10,7 +10,6 @@ use Rattle.tg_base.specs.declared.desk.Out.{Out}
 use Rattle.tg_base.specs.declared.desk.Out.TheVariants as out
 use Rattle.p4_program.specs.declared.bounds.Bounds.{Bounds}
 use Rattle.p4_program.specs.declared.program.Program.{Program}
-use Rattle.p4_program.specs.Numbered.{numbered}
 use Rattle.p4_meaning.specs.declared.test.Test.{Test}
 use Rattle.p4_meaning.specs.declared.verdict.Verdict.{Verdict}
 use Rattle.p4_meaning.specs.Verdicts.{credits}
@@ -53,7 +52,7 @@ text_is f out.Notes = append-nil _ ∙ tests_elsewhere f.verdicts 1 f.tests out.
 -- from one test on: its text, and then the others
 pub tests_go_on : (verdicts : List Verdict) (tests : List Test) (place : ℕ) (t : Test) → place < length tests → t ≡ get_or tests place t → (o : Out)
     → tests_text verdicts (suc place) (drop place tests) o
-      ≡ only (out.Test (place + 1)) (test_text (place + 1) (credits verdicts (place + 1)) t) o ++ tests_text verdicts (suc (place + 1)) (drop (place + 1) tests) o
+    ≡ only (out.Test (place + 1)) (test_text (place + 1) (credits verdicts (place + 1)) t) o ++ tests_text verdicts (suc (place + 1)) (drop (place + 1) tests) o
 tests_go_on verdicts tests place t within is o =
     let front : drop place tests ≡ t ∷ drop (suc place) tests = drop-cons tests place t within ∙ ap (λ u. u ∷ drop (suc place) tests) (sym is) in
     ap (λ ts. tests_text verdicts (suc place) ts o) front

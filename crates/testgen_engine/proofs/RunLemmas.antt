@@ -1,5 +1,5 @@
 -- Lemmas on runs: each input has one, which begins every statement in order.
-use Rattle.std.proofs.Common.{◌≡◌, ◌≢◌, ℕ, ◌+◌, ◌<◌, ◌≤◌, Bool, true, false, List, [], ◌∷◌, length, map, get_or, ◌⊎◌, inl, inr, refl, ap, sym, ◌∙◌, subst, arith, if◌then◌else◌}
+use Rattle.std.proofs.Common.{◌≡◌, ◌≢◌, ℕ, ◌+◌, ◌<◌, ◌≤◌, true, false, List, [], ◌∷◌, length, inl, inr, refl, ap, sym, ◌∙◌, subst, arith, if◌then◌else◌}
 use Prim.Native.Nat.{zero, suc}
 use Rattle.std.proofs.Math.Dec.{eqb}
 use Rattle.std.proofs.lemmas.Bool.{false≢true, eqb-true, eq-eqb, cases_lt}
@@ -13,11 +13,10 @@ use Rattle.p4_program.specs.declared.program.StatementKind.TheVariants.{AssignEg
 use Rattle.p4_program.specs.Input.{Bounded}
 use Rattle.p4_meaning.specs.declared.outcome.Outcome.{Outcome}
 use Rattle.p4_meaning.specs.declared.outcome.Outcome.TheVariants.{Sent, Dropped, Overrun}
-use Rattle.p4_meaning.specs.declared.outcome.Shape.{Shape}
 use Rattle.p4_meaning.specs.declared.outcome.Shape.TheVariants as shape
-use Rattle.p4_meaning.specs.Good.{Good, Steady}
+use Rattle.p4_meaning.specs.Good.{Good}
 use Rattle.p4_meaning.specs.Outcome.{shape_of}
-use Rattle.p4_meaning.specs.Run.{Metadata, starting_metadata, Executes, ExecutesAll, IsDropped, Leaves, Run}
+use Rattle.p4_meaning.specs.Run.{Metadata, Executes, ExecutesAll, Leaves, Run}
 use Rattle.testgen_engine.specs.Decide.{egress_of, egress_after}
 
 -- this many numbers, from the first on
@@ -49,7 +48,7 @@ executes_all first value [] new marks h = h
 executes_all first value (s ∷ statements) new marks h =
     let one = executes_one s.kind value h.0 h.2 in
     let others = executes_all (suc first) (egress_of s.kind) statements new h.1
-      (subst (λ m. ExecutesAll (suc first) statements m new h.1) one h.3) in
+    (subst (λ m. ExecutesAll (suc first) statements m new h.1) one h.3) in
     (others.0, h.4 ∙ ap (λ ms. first ∷ ms) others.1)
 
 all_execute : (first value : ℕ) (statements : List Statement) → ExecutesAll first statements (store_of value) (store_of (egress_after value statements)) (numbers first (length statements))
@@ -61,8 +60,8 @@ all_execute first value (s ∷ statements) =
 leaves_at : (value : ℕ) (packet : List ℕ) (outcome : Outcome) → Leaves (store_of value) packet outcome → outcome ≡ outcome_at value packet
 leaves_at value packet (Sent port bytes) h =
     elim (eqb value 511) as (λ b. eqb value 511 ≡ b → Sent port bytes ≡ (if b then Dropped else Sent value packet)) [
-      true ↦ λ e. absurd (h.0 (inr (eqb-true value 511 e)))
-    | false ↦ λ e. let port_is = h.1 in let bytes_are = h.2 in cc
+      | true ↦ λ e. absurd (h.0 (inr (eqb-true value 511 e)))
+      | false ↦ λ e. let port_is = h.1 in let bytes_are = h.2 in cc
     ] refl
 leaves_at value packet Dropped (inl group) = absurd (group refl)
 leaves_at value packet Dropped (inr drop) = rw (eq-eqb value 511 drop) refl
@@ -71,8 +70,8 @@ leaves_at value packet Overrun h = absurd h
 at_leaves : (value : ℕ) (packet : List ℕ) → Leaves (store_of value) packet (outcome_at value packet)
 at_leaves value packet =
     elim (eqb value 511) as (λ b. eqb value 511 ≡ b → Leaves (store_of value) packet (if b then Dropped else Sent value packet)) [
-      true ↦ λ e. inr (eqb-true value 511 e)
-    | false ↦ λ e. (elim [ inl group ↦ group refl | inr drop ↦ false≢true (sym e ∙ eq-eqb value 511 drop) ], refl, refl)
+      | true ↦ λ e. inr (eqb-true value 511 e)
+      | false ↦ λ e. (elim [ inl group ↦ group refl | inr drop ↦ false≢true (sym e ∙ eq-eqb value 511 drop) ], refl, refl)
     ] refl
 
 -- the egress_spec that the program's ingress leaves
@@ -103,10 +102,10 @@ pub Contains-numbers : (first count n : ℕ) → first ≤ n → n < first + cou
 Contains-numbers first zero n low high = absurd (omega arith)
 Contains-numbers first (suc count) n low high =
     elim (cases_lt first n) as (λ _. Contains (numbers first (suc count)) n) [
-      inl later ↦
-        let found = Contains-numbers (suc first) count n (omega arith) (omega arith) in
-        (suc found.0, omega arith, found.2)
-    | inr here ↦ let same : first ≡ n = omega arith in (0, omega arith, same)
+      | inl later ↦
+          let found = Contains-numbers (suc first) count n (omega arith) (omega arith) in
+          (suc found.0, omega arith, found.2)
+      | inr here ↦ let same : first ≡ n = omega arith in (0, omega arith, same)
     ]
 
 -- every bounded input is good for every statement

@@ -1,5 +1,5 @@
 -- Lemmas on reading a file in pieces.
-use Rattle.std.proofs.Common.{◌≡◌, ℕ, ◌<◌, ◌≤◌, List, [], ◌∷◌, ◌++◌, Option, None, Some, length, take, refl, ap, sym, ◌∙◌, subst, append_assoc, arith, append-nil, Result, Ok, Err, IfOk}
+use Rattle.std.proofs.Common.{◌≡◌, ℕ, ◌≤◌, List, [], ◌∷◌, ◌++◌, Option, None, Some, length, take, refl, ap, sym, ◌∙◌, subst, append_assoc, arith, append-nil, Result, Ok, Err, IfOk}
 use Rattle.std.proofs.lemmas.List.{take_all, take-append-le}
 use Rattle.tg_base.specs.Content.{OpensAtStart}
 use Rattle.testgen_engine.specs.Endings.{HasFile}

@@ -1,11 +1,10 @@
 -- The log of the questions that a job asked. A program whose inputs have one run each needs no question, so
 -- a log has no record yet, and no unit of the budget is spent.
-use Rattle.std.specs.Prelude.{◌≡◌, ◌↔◌, ℕ, ◌<◌, ◌≤◌, ◌⊎◌, List, [], ◌∷◌, Some, Contains}
+use Rattle.std.specs.Prelude.{◌≡◌, ◌↔◌, ℕ, ◌≤◌, List, [], Some, Contains}
 use Rattle.p4_program.specs.declared.bounds.Bounds.{Bounds}
 use Rattle.p4_program.specs.Numbered.{numbered}
 use Rattle.p4_meaning.specs.declared.test.Expected.{Expected}
 use Rattle.p4_meaning.specs.declared.test.Expected.TheVariants.{Drop, Packet}
-use Rattle.p4_meaning.specs.declared.test.Nibble.{Nibble}
 use Rattle.p4_meaning.specs.declared.test.Nibble.TheVariants as nibble
 use Rattle.p4_meaning.specs.declared.test.Test.{Test}
 use Rattle.p4_meaning.specs.declared.verdict.Verdict.{Verdict}
@@ -35,7 +34,7 @@ HasUndecided (Packet port nibbles) = Contains nibbles nibble.Undecided
 -- and a nibble only where its test's was.
 pub record Lawful (b : Bounds) (verdicts : List Verdict) (tests : List Test) (log : List LogRecord) : Type 0 where
   pub statements : (statement : ℕ) (v : Verdict) → numbered verdicts statement ≡ Some v
-    → (v ≡ verdict.Undecided) ↔ (statement_units log statement ≡ b.budget)
+      → (v ≡ verdict.Undecided) ↔ (statement_units log statement ≡ b.budget)
   pub within : (statement : ℕ) → statement_units log statement ≤ b.budget
   pub nibbles : (number : ℕ) (test : Test) → numbered tests number ≡ Some test
-    → HasUndecided test.expected → test_units log number ≡ b.budget
+      → HasUndecided test.expected → test_units log number ≡ b.budget

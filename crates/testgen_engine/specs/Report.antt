@@ -88,7 +88,7 @@ counts_of verdicts tests = record {
   unsteady = count_by is_unsteady verdicts;
   undecided = count_by is_unsearched verdicts;
   tests = length tests;
-  nibbles = undecided_nibbles tests
+  nibbles = undecided_nibbles tests;
 }
 
 -- `statements S covered C unreachable U unsteady Y undecided D` and `tests T nibbles X`

@@ -3,7 +3,6 @@ use Rattle.std.specs.Prelude.{◌≡◌, ℕ, ◌<◌, ◌≤◌, List, [], ◌�
 use Prim.Native.Nat.{suc}
 use Rattle.std.specs.Fmt.{decimal}
 use Rattle.std.specs.List.{flat_map, AllByRecursion}
-use Rattle.tg_base.specs.declared.place.Span.{Span}
 use Rattle.p4_program.specs.declared.program.Program.{Program}
 use Rattle.p4_program.specs.declared.program.Statement.{Statement}
 use Rattle.p4_program.specs.declared.program.StatementKind.{StatementKind}

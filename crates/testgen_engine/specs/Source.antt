@@ -1,5 +1,5 @@
 -- Reading a file from its start to its end, in pieces.
-use Rattle.std.specs.Prelude.{◌≡◌, ℕ, ◌≤◌, List, [], ◌++◌, Option, None, Some, length, take}
+use Rattle.std.specs.Prelude.{◌≡◌, ℕ, List, [], ◌++◌, Option, None, Some, take}
 
 -- what was left before is what was read since, and then what is left now
 abbrev pub MovesOn : Option (List ℕ) → List ℕ → Option (List ℕ) → List ℕ → Type 0

@@ -1,5 +1,5 @@
 -- The status with which a call ends.
-use Rattle.std.specs.Prelude.{ℕ, Result, Ok, Err}
+use Rattle.std.specs.Prelude.{ℕ}
 use Rattle.testgen_engine.specs.declared.output.Stop.{Stop}
 use Rattle.testgen_engine.specs.declared.output.Stop.TheVariants as stop
 use Rattle.testgen_engine.specs.declared.generate.Status.{Status}

@@ -104,7 +104,7 @@ fn answer<D: Desk>(alloc: Global, desk: &mut D, source: &[u8]) -> Result<Status,
     ensures ends { (files : Option (List ℕ → Option (List ℕ))) (words : List (List ℕ)) (name whole : List ℕ) (before now : ℕ)
         → AsksGen words name → HasFile files name whole → source.now ≡ take 262145 whole
         → MatchResult result (λ status. AddsText (D.written desk.old) (D.written desk.new) (Ends files words before now (status_of status)))
-            (λ _. IsCutShort files words before now (D.written desk.old) (D.written desk.new)) }
+        (λ _. IsCutShort files words before now (D.written desk.old) (D.written desk.new)) }
     ensures write_fault { IsErrOf result Stop.WriteFault → Rose (D.write_faults desk.old) (D.write_faults desk.new) }
     ensures no_read_fault { IsErrOf result Stop.ReadFault → ⊥ }
 
@@ -149,7 +149,11 @@ fn tell_usage<D: Desk>(desk: &mut D) -> Result<Status, Stop>
     ensures asked_stays { D.asked desk.new ≡ D.asked desk.old }
     ensures read_faults_stay { D.read_faults desk.new ≡ D.read_faults desk.old }
 {
-    write_all(desk, Out::Notes, b"usage: gen NAME | replay NAME TEST FILL | load NUMBER SIZE\n")?;
+    write_all(
+        desk,
+        Out::Notes,
+        b"usage: gen NAME | replay NAME TEST FILL | load NUMBER SIZE\n",
+    )?;
     Ok(Status::WrongWords)
 }
 
@@ -157,7 +161,7 @@ fn tell_usage<D: Desk>(desk: &mut D) -> Result<Status, Stop>
 fn generate_from<D: Desk>(alloc: Global, name: &str, desk: &mut D) -> Result<Status, Stop>
     ensures ends { (words : List (List ℕ)) → AsksGen words name.now
         → MatchResult result (λ status. AddsText (D.written desk.old) (D.written desk.new) (Ends (D.files desk.old) words (D.read_faults desk.old) (D.read_faults desk.new) (status_of status)))
-            (λ _. IsCutShort (D.files desk.old) words (D.read_faults desk.old) (D.read_faults desk.new) (D.written desk.old) (D.written desk.new)) }
+        (λ _. IsCutShort (D.files desk.old) words (D.read_faults desk.old) (D.read_faults desk.new) (D.written desk.old) (D.written desk.new)) }
     ensures asked { AsksFront (D.asked desk.old) (D.asked desk.new) (name.now ∷ []) }
     ensures write_fault { IsErrOf result Stop.WriteFault → Rose (D.write_faults desk.old) (D.write_faults desk.new) }
     ensures no_read_fault { IsErrOf result Stop.ReadFault → ⊥ }

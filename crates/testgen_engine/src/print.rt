@@ -34,7 +34,13 @@ fn credits_of(alloc: Global, verdicts: &[Verdict], test: u32) -> Result<Numbers,
 }
 
 /// Writes one test.
-fn print_test<D: Desk>(alloc: Global, desk: &mut D, number: u32, verdicts: &[Verdict], test: &Test) -> Result<(), Stop>
+fn print_test<D: Desk>(
+    alloc: Global,
+    desk: &mut D,
+    number: u32,
+    verdicts: &[Verdict],
+    test: &Test,
+) -> Result<(), Stop>
     requires { length verdicts.now ≤ 2000 }
     ensures ok { OnOk result (Adds (D.written desk.old) (D.written desk.new) (only (out.Test number) (test_text number (credits verdicts.now number) test.now))) }
     ensures err { OnErr result (AddsFronts (D.written desk.old) (D.written desk.new) (only (out.Test number) (test_text number (credits verdicts.now number) test.now))) }
@@ -53,7 +59,12 @@ fn print_test<D: Desk>(alloc: Global, desk: &mut D, number: u32, verdicts: &[Ver
 }
 
 /// Writes the tests, numbered from 1.
-fn print_tests<D: Desk>(alloc: Global, desk: &mut D, verdicts: &[Verdict], tests: &[Test]) -> Result<(), Stop>
+fn print_tests<D: Desk>(
+    alloc: Global,
+    desk: &mut D,
+    verdicts: &[Verdict],
+    tests: &[Test],
+) -> Result<(), Stop>
     requires verdicts { length verdicts.now ≤ 2000 }
     requires tests { length tests.now ≤ 2000 }
     ensures ok { OnOk result (Adds (D.written desk.old) (D.written desk.new) (tests_text verdicts.now 1 tests.now)) }
@@ -74,7 +85,13 @@ fn print_tests<D: Desk>(alloc: Global, desk: &mut D, verdicts: &[Verdict], tests
 }
 
 /// Writes the tests, and then the report.
-pub fn print<D: Desk>(alloc: Global, desk: &mut D, bounds: Bounds, program: &Program, decided: &Decided) -> Result<(), Stop>
+pub fn print<D: Desk>(
+    alloc: Global,
+    desk: &mut D,
+    bounds: Bounds,
+    program: &Program,
+    decided: &Decided,
+) -> Result<(), Stop>
     requires verdicts { length decided.now.verdicts ≡ length program.now.statements }
     requires tests { length decided.now.tests ≤ 2000 }
     ensures ok { OnOk result (Adds (D.written desk.old) (D.written desk.new) (text_of (findings bounds program.now decided.now))) }

@@ -24,12 +24,25 @@ pub struct Counts {
 fn push_bounds(text: &mut String, bounds: Bounds) -> Result<(), AllocError>
     ensures { OnOk result (string_bytes text.new ≡ string_bytes text.old ++ bounds_line bounds) }
 {
-    let Bounds { bytes, steps, entries, budget } = bounds;
-    writeln!(text, "bounds bytes {bytes} steps {steps} entries {entries} budget {budget}")
+    let Bounds {
+        bytes,
+        steps,
+        entries,
+        budget,
+    } = bounds;
+    writeln!(
+        text,
+        "bounds bytes {bytes} steps {steps} entries {entries} budget {budget}"
+    )
 }
 
 /// Adds the line of a statement.
-fn push_statement(text: &mut String, number: usize, place: Span, verdict: Verdict) -> Result<(), AllocError>
+fn push_statement(
+    text: &mut String,
+    number: usize,
+    place: Span,
+    verdict: Verdict,
+) -> Result<(), AllocError>
     ensures { OnOk result (string_bytes text.new ≡ string_bytes text.old ++ statement_line number place verdict) }
 {
     let Span { line, column } = place;
@@ -44,7 +57,11 @@ fn push_nibble(text: &mut String, test: usize, place: usize) -> Result<(), Alloc
 }
 
 /// Adds the lines of statements and their verdicts.
-fn push_statements(text: &mut String, statements: &[Statement], verdicts: &[Verdict]) -> Result<(), AllocError>
+fn push_statements(
+    text: &mut String,
+    statements: &[Statement],
+    verdicts: &[Verdict],
+) -> Result<(), AllocError>
     requires { length statements.now ≡ length verdicts.now }
     ensures { OnOk result (string_bytes text.new ≡ string_bytes text.old ++ statement_lines 1 statements.now verdicts.now) }
 {
@@ -83,28 +100,40 @@ fn expected_nibbles(expected: &Expected) -> &[Nibble]
 fn covered_count(verdicts: &[Verdict]) -> usize
     ensures { result ≡ count_by is_covered verdicts.now }
 {
-    verdicts.iter().filter(|verdict| matches!(verdict, Verdict::Covered(_))).count()
+    verdicts
+        .iter()
+        .filter(|verdict| matches!(verdict, Verdict::Covered(_)))
+        .count()
 }
 
 /// How many statements are unreachable.
 fn unreachable_count(verdicts: &[Verdict]) -> usize
     ensures { result ≡ count_by is_unreachable verdicts.now }
 {
-    verdicts.iter().filter(|verdict| matches!(verdict, Verdict::Unreachable)).count()
+    verdicts
+        .iter()
+        .filter(|verdict| matches!(verdict, Verdict::Unreachable))
+        .count()
 }
 
 /// How many statements are unsteady.
 fn unsteady_count(verdicts: &[Verdict]) -> usize
     ensures { result ≡ count_by is_unsteady verdicts.now }
 {
-    verdicts.iter().filter(|verdict| matches!(verdict, Verdict::Unsteady)).count()
+    verdicts
+        .iter()
+        .filter(|verdict| matches!(verdict, Verdict::Unsteady))
+        .count()
 }
 
 /// How many statements are undecided.
 fn undecided_count(verdicts: &[Verdict]) -> usize
     ensures { result ≡ count_by is_unsearched verdicts.now }
 {
-    verdicts.iter().filter(|verdict| matches!(verdict, Verdict::Undecided)).count()
+    verdicts
+        .iter()
+        .filter(|verdict| matches!(verdict, Verdict::Undecided))
+        .count()
 }
 
 /// Adds the lines of the tests' undecided nibbles, and answers how many there are.
@@ -140,7 +169,14 @@ fn count(verdicts: &[Verdict], tests: &[Test], nibbles: u128) -> Counts
 fn push_verdict_counts(text: &mut String, counts: Counts) -> Result<(), AllocError>
     ensures { OnOk result (string_bytes text.new ≡ string_bytes text.old ++ verdict_counts counts) }
 {
-    let Counts { statements, covered, unreachable, unsteady, undecided, .. } = counts;
+    let Counts {
+        statements,
+        covered,
+        unreachable,
+        unsteady,
+        undecided,
+        ..
+    } = counts;
     write!(
         text,
         "statements {statements} covered {covered} unreachable {unreachable} unsteady {unsteady} undecided {undecided} "
@@ -164,7 +200,13 @@ fn push_counts(text: &mut String, counts: Counts) -> Result<(), AllocError>
 }
 
 /// The report of verdicts and tests.
-pub fn write_report(alloc: Global, bounds: Bounds, program: &Program, verdicts: &[Verdict], tests: &[Test]) -> Result<String, AllocError>
+pub fn write_report(
+    alloc: Global,
+    bounds: Bounds,
+    program: &Program,
+    verdicts: &[Verdict],
+    tests: &[Test],
+) -> Result<String, AllocError>
     requires { length verdicts.now ≡ length program.now.statements }
     ensures { IfOk result (λ text. string_bytes text ≡ report_text bounds program.now verdicts.now tests.now) }
 {

@@ -49,7 +49,9 @@ fn read_piece<D: Desk>(desk: &mut D, bytes: &mut Vec<u8>) -> Result<bool, Stop>
     let room = PIECE.min(MOST_BYTES - bytes.len());
     match desk.read(&mut piece[..room]) {
         Ok(count) => {
-            bytes.extend_from_slice(&piece[..count]).map_err(|_| Stop::Memory)?;
+            bytes
+                .extend_from_slice(&piece[..count])
+                .map_err(|_| Stop::Memory)?;
             Ok(count > 0)
         }
         Err(fault) => Err(stop_of_read(fault)),

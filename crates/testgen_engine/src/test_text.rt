@@ -55,7 +55,12 @@ fn push_expected(text: &mut String, expected: &Expected) -> Result<(), AllocErro
 }
 
 /// The text of a test, with its number and the statements that it is credited with.
-pub fn write_test(alloc: Global, number: u32, statements: &[u32], test: &Test) -> Result<String, AllocError>
+pub fn write_test(
+    alloc: Global,
+    number: u32,
+    statements: &[u32],
+    test: &Test,
+) -> Result<String, AllocError>
     ensures { IfOk result (λ text. string_bytes text ≡ test_text number statements.now test.now) }
 {
     let mut text = String::new(alloc);

@@ -10,7 +10,7 @@ returns-in-Ok-clause-completes g c =
     let new = c.run.new.desk in
     let words = map string_bytes c.args.words.now in
     subst (λ status. Completes (desk.files old) words (desk.read_faults old) (desk.read_faults new) (desk.write_faults old) (desk.write_faults new) status) (sym c.number.ensures)
-      (completes_from (desk.files old) words (desk.read_faults old) (desk.read_faults new) (desk.write_faults old) (desk.write_faults new) _ (desk.written old) (desk.written new) c.in-Ok.ensures.ends)
+    (completes_from (desk.files old) words (desk.read_faults old) (desk.read_faults new) (desk.write_faults old) (desk.write_faults new) _ (desk.written old) (desk.written new) c.in-Ok.ensures.ends)
 
 pub returns-in-Ok-clause-refuses : goal.returns-in-Ok-clause-refuses
 returns-in-Ok-clause-refuses g c =
@@ -19,4 +19,4 @@ returns-in-Ok-clause-refuses g c =
     let new = c.run.new.desk in
     let words = map string_bytes c.args.words.now in
     subst (λ status. RefusesWhole (desk.files old) words (desk.read_faults old) (desk.read_faults new) (desk.write_faults old) (desk.write_faults new) status) (sym c.number.ensures)
-      (refuses_from (desk.files old) words (desk.read_faults old) (desk.read_faults new) (desk.write_faults old) (desk.write_faults new) _ (desk.written old) (desk.written new) c.in-Ok.ensures.ends)
+    (refuses_from (desk.files old) words (desk.read_faults old) (desk.read_faults new) (desk.write_faults old) (desk.write_faults new) _ (desk.written old) (desk.written new) c.in-Ok.ensures.ends)

@@ -1,4 +1,4 @@
-use Rattle.std.proofs.Common.{refl, inr}
+use Rattle.std.proofs.Common.{inr}
 use Rattle.testgen_engine.specs.Decide.{findings}
 use Rattle.testgen_engine.specs.Findings.{text_of}
 use Rattle.testgen_engine.proofs.EndLemmas.{found_is_found}

@@ -1,4 +1,4 @@
-use Rattle.std.proofs.Common.{◌≡◌, ◌≤◌, ◌++◌, take, append_assoc, ap, sym, ◌∙◌, arith}
+use Rattle.std.proofs.Common.{◌++◌, take, append_assoc, ap, sym, ◌∙◌, arith}
 use Rattle.testgen_engine.proofs.Lists.{take-rest}
 use Rattle.testgen_engine.proofs.OutputLemmas.{adds_more}
 use Rattle.testgen_engine.proofs.output.write_all.Goals as goal

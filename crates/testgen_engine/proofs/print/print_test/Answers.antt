@@ -1,6 +1,5 @@
-use Rattle.std.proofs.Common.{◌≡◌, ℕ, List, OnOk, OnErr, ap, ◌∙◌, subst}
+use Rattle.std.proofs.Common.{OnOk, OnErr, ap, ◌∙◌, subst}
 use Rattle.tg_base.specs.declared.desk.Out.TheVariants as out
-use Rattle.p4_meaning.specs.Verdicts.{credits}
 use Rattle.testgen_engine.specs.Outputs.{Adds, AddsFronts, only}
 use Rattle.testgen_engine.specs.TestText.{test_text}
 use Rattle.testgen_engine.proofs.OutputLemmas.{adds_no_front, on_err}

@@ -1,7 +1,5 @@
-use Rattle.std.proofs.Common.{◌≡◌, ◌≤◌, ℕ, ◌+◌, List, [], ◌∷◌, ◌++◌, drop, refl, ap, sym, ◌∙◌, subst, append_assoc, add-one, arith}
+use Rattle.std.proofs.Common.{◌+◌, [], ◌++◌, drop, refl, ap, sym, ◌∙◌, append_assoc, arith}
 use Prim.Native.Nat.{suc}
-use Rattle.std.proofs.Math.Seq.{drop-cons}
-use Rattle.tg_base.specs.declared.desk.Out.{Out}
 use Rattle.tg_base.specs.declared.desk.Out.TheVariants as out
 use Rattle.p4_meaning.specs.declared.test.Test.{Test}
 use Rattle.p4_meaning.specs.Verdicts.{credits}
@@ -27,9 +25,9 @@ returns-in_err-print_test-clause-err g c =
     let t : Test = c.index-tests-index.result in
     let go_on = tests_go_on c.args.verdicts.now c.args.tests.now c.loop-index.index t c.loop-index-test.true c.index-tests-index.is in
     on_err c.from_residual.result
-      (fronts_more _ _ _ (λ o. tests_text c.args.verdicts.now (suc (c.loop-index.index + 1)) (drop (c.loop-index.index + 1) c.args.tests.now) o) _
-        (fronts_after _ _ _ kept.done.0 _ kept.done.2 c.in_err-print_test.ensures.err)
-        (λ o. append_assoc (kept.done.0 o) _ _ ∙ ap (λ xs. kept.done.0 o ++ xs) (sym (go_on o)) ∙ kept.done.1 o))
+    (fronts_more _ _ _ (λ o. tests_text c.args.verdicts.now (suc (c.loop-index.index + 1)) (drop (c.loop-index.index + 1) c.args.tests.now) o) _
+    (fronts_after _ _ _ kept.done.0 _ kept.done.2 c.in_err-print_test.ensures.err)
+    (λ o. append_assoc (kept.done.0 o) _ _ ∙ ap (λ xs. kept.done.0 o ++ xs) (sym (go_on o)) ∙ kept.done.1 o))
 
 pub loop-index-preserved : goal.loop-index-preserved
 loop-index-preserved g c =

@@ -10,8 +10,8 @@ invariant-loop-index g l =
     let desk = g.D.Desk in
     record {
       done : (text : Out → List ℕ)
-        × ((o : Out) → text o ++ tests_text l.verdicts (suc l.index) (drop l.index l.tests) o ≡ tests_text l.verdicts 1 l.tests o)
-        × Adds (desk.written l.initial.desk) (desk.written l.desk) text;
+          × ((o : Out) → text o ++ tests_text l.verdicts (suc l.index) (drop l.index l.tests) o ≡ tests_text l.verdicts 1 l.tests o)
+          × Adds (desk.written l.initial.desk) (desk.written l.desk) text;
       count : desk.write_faults l.initial.desk ≤ desk.write_faults l.desk;
       files : desk.files l.desk ≡ desk.files l.initial.desk;
       asked : desk.asked l.desk ≡ desk.asked l.initial.desk;

@@ -16,6 +16,6 @@ loop-kind-preserved c =
     let line : c.loop-kind.line ≡ 11 + length (take i kinds) = omega (arith, length-take i kinds) in
     record {
       done = c.in_ok-push.ensures.ok ∙ ap (λ n. c.loop-kind.statements ++ item n ∷ []) line ∙ ap (λ xs. xs ++ item (11 + length (take i kinds)) ∷ []) kept.done
-        ∙ sym (placed_from-push 11 (take i kinds) kind) ∙ ap (placed_from 11) (sym more);
+          ∙ sym (placed_from-push 11 (take i kinds) kind) ∙ ap (placed_from 11) (sym more);
       line = omega arith;
     }

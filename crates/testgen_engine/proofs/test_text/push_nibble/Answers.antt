@@ -1,4 +1,4 @@
-use Rattle.std.proofs.Common.{◌≡◌, ℕ, ◌<◌, false, IsTrue, List, [], ◌∷◌, ◌++◌, OnOk, string_bytes, sym, subst}
+use Rattle.std.proofs.Common.{◌≡◌, false, IsTrue, [], ◌∷◌, ◌++◌, OnOk, string_bytes, sym, subst}
 use Rattle.std.proofs.lemmas.Bool.{ltb-true}
 use Rattle.std.proofs.lemmas.Fmt.{hex_one_digit}
 use Rattle.std.specs.Fmt.{AppendsText}
@@ -13,4 +13,4 @@ returns-in-Fixed c =
     let small = ltb-true c.in-Fixed.digit 16 (subst (λ n. IsTrue (is_digit n)) c.in-Fixed.is c.requires) in
     let written = subst (λ o. OnOk c.write.result (AppendsText old new o)) c.in_radix.ensures c.write.ensures.bytes in
     subst (λ n. OnOk c.write.result (new ≡ old ++ glyph_of n ∷ [])) (sym c.in-Fixed.is)
-      (subst (λ digits. OnOk c.write.result (new ≡ old ++ digits)) (hex_one_digit false c.in-Fixed.digit small) written)
+    (subst (λ digits. OnOk c.write.result (new ≡ old ++ digits)) (hex_one_digit false c.in-Fixed.digit small) written)

@@ -7,4 +7,4 @@ use Rattle.testgen_engine.proofs.test_text.push_title.Given as goal
 abbrev pub invariant-loop-statement : goal.invariant-loop-statement
 invariant-loop-statement l =
     string_bytes l.text ++ flat_map (λ statement. codes " " ++ decimal statement) (drop l.statement-index l.statements)
-      ≡ string_bytes l.initial.text ++ flat_map (λ statement. codes " " ++ decimal statement) l.statements
+    ≡ string_bytes l.initial.text ++ flat_map (λ statement. codes " " ++ decimal statement) l.statements

@@ -1,6 +1,6 @@
-use Rattle.std.proofs.Common.{◌≡◌, map, string_bytes, List, [], ◌∷◌, ap, sym, ◌∙◌, subst}
+use Rattle.std.proofs.Common.{map, string_bytes, [], ◌∷◌, ap, sym, ◌∙◌, subst}
 use Rattle.std.proofs.lemmas.Slice.Eq.{bytes_eq-Decides}
-use Rattle.testgen_engine.specs.Words.{IsName, AsksGen, AsksNothing}
+use Rattle.testgen_engine.specs.Words.{IsName}
 use Rattle.testgen_engine.proofs.Lists.{two_items}
 use Rattle.testgen_engine.proofs.words.source_name.Goals as goal
 
