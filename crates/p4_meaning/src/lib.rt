@@ -9,6 +9,7 @@
 //! Nothing here says how an answer is found.
 #![tactic(auto)]
 
+pub mod laws;
 mod outcome;
 mod test;
 mod verdict;

@@ -1,4 +1,4 @@
--- Lemmas on runs: each input has one, which begins every statement in order.
+-- Lemmas on runs: those of an input end alike, and begin every statement in order.
 use Rattle.std.proofs.Common.{◌≡◌, ◌≢◌, ℕ, ◌+◌, ◌<◌, ◌≤◌, true, false, List, [], ◌∷◌, length, inl, inr, refl, ap, sym, ◌∙◌, subst, arith, if◌then◌else◌}
 use Prim.Native.Nat.{zero, suc}
 use Rattle.std.proofs.Math.Dec.{eqb}
@@ -37,10 +37,6 @@ executes_one : (kind : StatementKind) (value : ℕ) (new : Metadata) → Execute
 executes_one (AssignEgressSpec n) value new h = h
 executes_one MarkToDrop value new h = h
 
-one_executes : (kind : StatementKind) (value : ℕ) → Executes kind (store_of value) (store_of (egress_of kind))
-one_executes (AssignEgressSpec n) value = refl
-one_executes MarkToDrop value = refl
-
 -- a run of statements leaves one store, and begins each of them
 executes_all : (first value : ℕ) (statements : List Statement) (new : Metadata) (marks : List ℕ) → ExecutesAll first statements (store_of value) new marks
     → (new ≡ store_of (egress_after value statements)) × (marks ≡ numbers first (length statements))
@@ -50,11 +46,6 @@ executes_all first value (s ∷ statements) new marks h =
     let others = executes_all (suc first) (egress_of s.kind) statements new h.1
     (subst (λ m. ExecutesAll (suc first) statements m new h.1) one h.3) in
     (others.0, h.4 ∙ ap (λ ms. first ∷ ms) others.1)
-
-all_execute : (first value : ℕ) (statements : List Statement) → ExecutesAll first statements (store_of value) (store_of (egress_after value statements)) (numbers first (length statements))
-all_execute first value [] = (refl, refl)
-all_execute first value (s ∷ statements) =
-    (store_of (egress_of s.kind), numbers (suc first) (length statements), one_executes s.kind value, all_execute (suc first) (egress_of s.kind) statements, refl)
 
 -- what leaves where ingress leaves this egress_spec
 leaves_at : (value : ℕ) (packet : List ℕ) (outcome : Outcome) → Leaves (store_of value) packet outcome → outcome ≡ outcome_at value packet
@@ -67,13 +58,6 @@ leaves_at value packet Dropped (inl group) = absurd (group refl)
 leaves_at value packet Dropped (inr drop) = rw (eq-eqb value 511 drop) refl
 leaves_at value packet Overrun h = absurd h
 
-at_leaves : (value : ℕ) (packet : List ℕ) → Leaves (store_of value) packet (outcome_at value packet)
-at_leaves value packet =
-    elim (eqb value 511) as (λ b. eqb value 511 ≡ b → Leaves (store_of value) packet (if b then Dropped else Sent value packet)) [
-      | true ↦ λ e. inr (eqb-true value 511 e)
-      | false ↦ λ e. (elim [ inl group ↦ group refl | inr drop ↦ false≢true (sym e ∙ eq-eqb value 511 drop) ], refl, refl)
-    ] refl
-
 -- the egress_spec that the program's ingress leaves
 abbrev pub egress : Program → ℕ
 egress p = egress_after 0 p.statements
@@ -84,14 +68,6 @@ pub run_is : (p : Program) (b : Bounds) (x : Input) (outcome : Outcome) (marks :
 run_is p b x outcome marks run =
     let ran = executes_all 1 0 p.statements run.metadata marks run.ingress in
     (leaves_at (egress p) x.packet outcome (subst (λ m. Leaves m x.packet outcome) ran.0 run.leaves), ran.1)
-
--- and it is a run
-pub is_run : (p : Program) (b : Bounds) (x : Input) → Run p b x (outcome_at (egress p) x.packet) (numbers 1 (length p.statements))
-is_run p b x = record {
-  metadata = store_of (egress p);
-  ingress = all_execute 1 0 p.statements;
-  leaves = at_leaves (egress p) x.packet;
-}
 
 -- a run that is sent or dropped is no overrun
 no_overrun : (value : ℕ) (packet : List ℕ) → shape_of (outcome_at value packet) ≢ shape.Overrun

@@ -3,6 +3,8 @@
 
 mod file_desk;
 mod made_files;
+#[cfg(test)]
+mod rows;
 mod transfer;
 
 use file_desk::FileDesk;
