@@ -94,7 +94,8 @@ fn all_covered(alloc: Global, count: usize) -> Result<Items<Verdict>, AllocError
 /// Decides each statement. Where there is one, the opening input is the test of all.
 pub fn decide(alloc: Global, bounds: Bounds, program: &Program) -> Result<Decided, AllocError>
     ensures right { IfOk result (λ decided. AreRight (findings bounds program.now decided)) }
-    ensures decided { IfOk result (λ decided. IsUndecided (findings bounds program.now decided) → ⊥) }
+    ensures decided { IfOk result (λ decided. IsUndecided (findings bounds program.now decided)
+        → ⊥) }
     ensures few { IfOk result (λ decided. length decided.tests ≤ 1) }
 {
     let verdicts = all_covered(alloc, program.statements.len())?;

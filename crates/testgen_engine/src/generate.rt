@@ -1,11 +1,11 @@
 //! The job of `gen`: from the name of a source to what is written.
-ghost use Rattle.std.specs.Prelude.{◌≡◌, ◌≤◌, ◌⊎◌, ℕ, List, [], ◌∷◌, Option, take, IfOk, OnOk, OnErr, IsErrOf, MatchResult, map, string_bytes};
+ghost use Rattle.std.specs.Prelude.{◌≡◌, ◌≤◌, ◌⊎◌, ℕ, List, [], ◌∷◌, Option, take, IfOk, OnOk, OnErr, IsErrOf, map, string_bytes};
 ghost use Rattle.tg_base.specs.declared.desk.Out.TheVariants as out;
 ghost use Rattle.tg_base.specs.Faults.{Rose};
-ghost use Rattle.testgen_engine.specs.Endings.{HasFile, AsksFront, IsFound, Ends, IsCutShort, not_built};
+ghost use Rattle.testgen_engine.specs.Endings.{HasFile, AsksFront, IsFound, not_built};
 ghost use Rattle.testgen_engine.specs.Notes.{usage_note, read_fault_note, refusal_note};
 ghost use Rattle.testgen_engine.specs.Outputs.{Adds, AddsFronts, AddsNothing, AddsText, AddsTextFront, only};
-ghost use Rattle.testgen_engine.specs.Status.{status_of};
+ghost use Rattle.testgen_engine.specs.Status.{status_of, Ended};
 ghost use Rattle.testgen_engine.specs.Words.{AsksGen, AsksNothing};
 
 use crate::decide::decide;
@@ -59,9 +59,13 @@ fn write_refusal(alloc: Global, refusal: Refusal) -> Result<String, AllocError>
 /// Tells that a source is not built.
 fn refuse<D: Desk>(alloc: Global, desk: &mut D) -> Result<Status, Stop>
     ensures told { IfOk result (λ status. status ≡ Status.Refused) }
-    ensures ok { OnOk result (Adds (D.written desk.old) (D.written desk.new) (only out.Notes (refusal_note not_built))) }
-    ensures err { OnErr result (AddsFronts (D.written desk.old) (D.written desk.new) (only out.Notes (refusal_note not_built))) }
-    ensures write_fault { IsErrOf result Stop.WriteFault → Rose (D.write_faults desk.old) (D.write_faults desk.new) }
+    ensures ok { OnOk result
+        (Adds (D.written desk.old) (D.written desk.new) (only out.Notes (refusal_note not_built))) }
+    ensures err { OnErr result
+        (AddsFronts (D.written desk.old) (D.written desk.new)
+        (only out.Notes (refusal_note not_built))) }
+    ensures write_fault { IsErrOf result Stop.WriteFault
+        → Rose (D.write_faults desk.old) (D.write_faults desk.new) }
     ensures no_read_fault { IsErrOf result Stop.ReadFault → ⊥ }
 
     // What stays.
@@ -82,10 +86,12 @@ fn refuse<D: Desk>(alloc: Global, desk: &mut D) -> Result<Status, Stop>
 /// Decides a program's statements, and writes what was found.
 fn finish<D: Desk>(alloc: Global, desk: &mut D, program: &Program) -> Result<Status, Stop>
     ensures told { IfOk result (λ status. status ≡ Status.Done) }
-    ensures ok { OnOk result (AddsText (D.written desk.old) (D.written desk.new) (IsFound program.now)) }
+    ensures ok { OnOk result
+        (AddsText (D.written desk.old) (D.written desk.new) (IsFound program.now)) }
     ensures err { OnErr result (AddsNothing (D.written desk.old) (D.written desk.new)
         ⊎ AddsTextFront (D.written desk.old) (D.written desk.new) (IsFound program.now)) }
-    ensures write_fault { IsErrOf result Stop.WriteFault → Rose (D.write_faults desk.old) (D.write_faults desk.new) }
+    ensures write_fault { IsErrOf result Stop.WriteFault
+        → Rose (D.write_faults desk.old) (D.write_faults desk.new) }
     ensures no_read_fault { IsErrOf result Stop.ReadFault → ⊥ }
 
     // What stays.
@@ -101,11 +107,12 @@ fn finish<D: Desk>(alloc: Global, desk: &mut D, program: &Program) -> Result<Sta
 
 /// Answers a source that was read, up to the most bytes that are taken of one.
 fn answer<D: Desk>(alloc: Global, desk: &mut D, source: &[u8]) -> Result<Status, Stop>
-    ensures ends { (files : Option (List ℕ → Option (List ℕ))) (words : List (List ℕ)) (name whole : List ℕ) (before now : ℕ)
+    ensures ends { (files : Option (List ℕ → Option (List ℕ))) (words : List (List ℕ))
+        (name whole : List ℕ) (before now : ℕ)
         → AsksGen words name → HasFile files name whole → source.now ≡ take 262145 whole
-        → MatchResult result (λ status. AddsText (D.written desk.old) (D.written desk.new) (Ends files words before now (status_of status)))
-        (λ _. IsCutShort files words before now (D.written desk.old) (D.written desk.new)) }
-    ensures write_fault { IsErrOf result Stop.WriteFault → Rose (D.write_faults desk.old) (D.write_faults desk.new) }
+        → Ended files words before now (D.written desk.old) (D.written desk.new) result }
+    ensures write_fault { IsErrOf result Stop.WriteFault
+        → Rose (D.write_faults desk.old) (D.write_faults desk.new) }
     ensures no_read_fault { IsErrOf result Stop.ReadFault → ⊥ }
 
     // What stays.
@@ -122,9 +129,12 @@ fn answer<D: Desk>(alloc: Global, desk: &mut D, source: &[u8]) -> Result<Status,
 /// Tells that the source could not be read.
 fn tell_fault<D: Desk>(desk: &mut D) -> Result<Status, Stop>
     ensures told { IfOk result (λ status. status ≡ Status.ReadFault) }
-    ensures ok { OnOk result (Adds (D.written desk.old) (D.written desk.new) (only out.Notes read_fault_note)) }
-    ensures err { OnErr result (AddsFronts (D.written desk.old) (D.written desk.new) (only out.Notes read_fault_note)) }
-    ensures write_fault { IsErrOf result Stop.WriteFault → Rose (D.write_faults desk.old) (D.write_faults desk.new) }
+    ensures ok { OnOk result
+        (Adds (D.written desk.old) (D.written desk.new) (only out.Notes read_fault_note)) }
+    ensures err { OnErr result
+        (AddsFronts (D.written desk.old) (D.written desk.new) (only out.Notes read_fault_note)) }
+    ensures write_fault { IsErrOf result Stop.WriteFault
+        → Rose (D.write_faults desk.old) (D.write_faults desk.new) }
     ensures no_read_fault { IsErrOf result Stop.ReadFault → ⊥ }
 
     // What stays.
@@ -139,9 +149,12 @@ fn tell_fault<D: Desk>(desk: &mut D) -> Result<Status, Stop>
 /// Tells how the words are spelled.
 fn tell_usage<D: Desk>(desk: &mut D) -> Result<Status, Stop>
     ensures told { IfOk result (λ status. status ≡ Status.WrongWords) }
-    ensures ok { OnOk result (Adds (D.written desk.old) (D.written desk.new) (only out.Notes usage_note)) }
-    ensures err { OnErr result (AddsFronts (D.written desk.old) (D.written desk.new) (only out.Notes usage_note)) }
-    ensures write_fault { IsErrOf result Stop.WriteFault → Rose (D.write_faults desk.old) (D.write_faults desk.new) }
+    ensures ok { OnOk result
+        (Adds (D.written desk.old) (D.written desk.new) (only out.Notes usage_note)) }
+    ensures err { OnErr result
+        (AddsFronts (D.written desk.old) (D.written desk.new) (only out.Notes usage_note)) }
+    ensures write_fault { IsErrOf result Stop.WriteFault
+        → Rose (D.write_faults desk.old) (D.write_faults desk.new) }
     ensures no_read_fault { IsErrOf result Stop.ReadFault → ⊥ }
 
     // What stays.
@@ -160,10 +173,11 @@ fn tell_usage<D: Desk>(desk: &mut D) -> Result<Status, Stop>
 /// Does the job of `gen` on the source of this name.
 fn generate_from<D: Desk>(alloc: Global, name: &str, desk: &mut D) -> Result<Status, Stop>
     ensures ends { (words : List (List ℕ)) → AsksGen words name.now
-        → MatchResult result (λ status. AddsText (D.written desk.old) (D.written desk.new) (Ends (D.files desk.old) words (D.read_faults desk.old) (D.read_faults desk.new) (status_of status)))
-        (λ _. IsCutShort (D.files desk.old) words (D.read_faults desk.old) (D.read_faults desk.new) (D.written desk.old) (D.written desk.new)) }
+        → Ended (D.files desk.old) words (D.read_faults desk.old) (D.read_faults desk.new)
+            (D.written desk.old) (D.written desk.new) result }
     ensures asked { AsksFront (D.asked desk.old) (D.asked desk.new) (name.now ∷ []) }
-    ensures write_fault { IsErrOf result Stop.WriteFault → Rose (D.write_faults desk.old) (D.write_faults desk.new) }
+    ensures write_fault { IsErrOf result Stop.WriteFault
+        → Rose (D.write_faults desk.old) (D.write_faults desk.new) }
     ensures no_read_fault { IsErrOf result Stop.ReadFault → ⊥ }
     ensures files_stay { D.files desk.new ≡ D.files desk.old }
 {
@@ -176,12 +190,15 @@ fn generate_from<D: Desk>(alloc: Global, name: &str, desk: &mut D) -> Result<Sta
 
 /// Does the job that the words ask for.
 pub fn run<D: Desk>(alloc: Global, words: &[String], desk: &mut D) -> Result<Status, Stop>
-    ensures ends { MatchResult result
-        (λ status. AddsText (D.written desk.old) (D.written desk.new) (Ends (D.files desk.old) (map string_bytes words.now) (D.read_faults desk.old) (D.read_faults desk.new) (status_of status)))
-        (λ _. IsCutShort (D.files desk.old) (map string_bytes words.now) (D.read_faults desk.old) (D.read_faults desk.new) (D.written desk.old) (D.written desk.new)) }
-    ensures asked { (name : List ℕ) → AsksGen (map string_bytes words.now) name → AsksFront (D.asked desk.old) (D.asked desk.new) (name ∷ []) }
-    ensures nothing_asked { AsksNothing (map string_bytes words.now) → D.asked desk.new ≡ D.asked desk.old }
-    ensures write_fault { IsErrOf result Stop.WriteFault → Rose (D.write_faults desk.old) (D.write_faults desk.new) }
+    ensures ends { Ended (D.files desk.old) (map string_bytes words.now)
+        (D.read_faults desk.old) (D.read_faults desk.new)
+        (D.written desk.old) (D.written desk.new) result }
+    ensures asked { (name : List ℕ) → AsksGen (map string_bytes words.now) name
+        → AsksFront (D.asked desk.old) (D.asked desk.new) (name ∷ []) }
+    ensures nothing_asked { AsksNothing (map string_bytes words.now)
+        → D.asked desk.new ≡ D.asked desk.old }
+    ensures write_fault { IsErrOf result Stop.WriteFault
+        → Rose (D.write_faults desk.old) (D.write_faults desk.new) }
     ensures no_read_fault { IsErrOf result Stop.ReadFault → ⊥ }
     ensures files_stay { D.files desk.new ≡ D.files desk.old }
 {

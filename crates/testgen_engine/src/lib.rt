@@ -43,29 +43,47 @@ pub fn testgen<D: Desk>(alloc: Global, words: &[String], desk: &mut D) -> u8
     ensures statuses { result ≤ 6 }
 
     // The headline: what is printed is right.
-    ensures headline { (result ≡ 0) ⊎ (result ≡ 3) → AddsText (D.written desk.old) (D.written desk.new) (Finishes (D.files desk.old) (map string_bytes words.now) result) }
+    ensures headline { (result ≡ 0) ⊎ (result ≡ 3)
+        → AddsText (D.written desk.old) (D.written desk.new)
+            (Finishes (D.files desk.old) (map string_bytes words.now) result) }
 
     // Wrong words are told, and nothing is opened.
-    ensures wrong_words { result ≡ 1 → AddsText (D.written desk.old) (D.written desk.new) (Misspells (map string_bytes words.now) result) }
-    ensures only_wrong_words { AsksNothing (map string_bytes words.now) → (result ≡ 1) ⊎ (5 ≤ result) }
-    ensures nothing_opened { AsksNothing (map string_bytes words.now) → D.asked desk.new ≡ D.asked desk.old }
+    ensures wrong_words { result ≡ 1
+        → AddsText (D.written desk.old) (D.written desk.new)
+            (Misspells (map string_bytes words.now) result) }
+    ensures only_wrong_words { AsksNothing (map string_bytes words.now)
+        → (result ≡ 1) ⊎ (5 ≤ result) }
+    ensures nothing_opened { AsksNothing (map string_bytes words.now)
+        → D.asked desk.new ≡ D.asked desk.old }
 
     // A refusal is told, and nothing else is written.
-    ensures refused { result ≡ 2 → AddsText (D.written desk.old) (D.written desk.new) (Refuses (D.files desk.old) (map string_bytes words.now) result) }
+    ensures refused { result ≡ 2
+        → AddsText (D.written desk.old) (D.written desk.new)
+            (Refuses (D.files desk.old) (map string_bytes words.now) result) }
 
     // A fault comes only where the desk has counted it in this call.
-    ensures read_fault { result ≡ 4 → AddsText (D.written desk.old) (D.written desk.new) (FailsToRead (map string_bytes words.now) (D.read_faults desk.old) (D.read_faults desk.new) result) }
+    ensures read_fault { result ≡ 4
+        → AddsText (D.written desk.old) (D.written desk.new)
+            (FailsToRead (map string_bytes words.now) (D.read_faults desk.old)
+                (D.read_faults desk.new) result) }
     ensures write_fault { result ≡ 5 → Rose (D.write_faults desk.old) (D.write_faults desk.new) }
 
     // What a call that is cut short has written is a front of what is right.
-    ensures cut_short { 5 ≤ result → IsCutShort (D.files desk.old) (map string_bytes words.now) (D.read_faults desk.old) (D.read_faults desk.new) (D.written desk.old) (D.written desk.new) }
+    ensures cut_short { 5 ≤ result
+        → IsCutShort (D.files desk.old) (map string_bytes words.now)
+            (D.read_faults desk.old) (D.read_faults desk.new) (D.written desk.old) (D.written desk.new) }
 
     // No other name is asked for.
-    ensures asked { (name : List ℕ) → AsksGen (map string_bytes words.now) name → AsksFront (D.asked desk.old) (D.asked desk.new) (name ∷ []) }
+    ensures asked { (name : List ℕ) → AsksGen (map string_bytes words.now) name
+        → AsksFront (D.asked desk.old) (D.asked desk.new) (name ∷ []) }
 
     // Without a fault a source that is built is finished, and any other is refused.
-    ensures completes { Completes (D.files desk.old) (map string_bytes words.now) (D.read_faults desk.old) (D.read_faults desk.new) (D.write_faults desk.old) (D.write_faults desk.new) result }
-    ensures refuses { RefusesWhole (D.files desk.old) (map string_bytes words.now) (D.read_faults desk.old) (D.read_faults desk.new) (D.write_faults desk.old) (D.write_faults desk.new) result }
+    ensures completes { Completes (D.files desk.old) (map string_bytes words.now)
+        (D.read_faults desk.old) (D.read_faults desk.new) (D.write_faults desk.old)
+        (D.write_faults desk.new) result }
+    ensures refuses { RefusesWhole (D.files desk.old) (map string_bytes words.now)
+        (D.read_faults desk.old) (D.read_faults desk.new) (D.write_faults desk.old)
+        (D.write_faults desk.new) result }
 
     ensures files_stay { D.files desk.new ≡ D.files desk.old }
 {

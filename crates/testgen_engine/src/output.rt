@@ -55,8 +55,10 @@ fn stop_of_write(fault: DeskFault) -> Stop
 /// Writes a whole text to an output, in as many pieces as the desk takes.
 pub fn write_all<D: Desk>(desk: &mut D, out: Out, text: &[u8]) -> Result<(), Stop>
     ensures ok { OnOk result (Adds (D.written desk.old) (D.written desk.new) (only out text.now)) }
-    ensures err { OnErr result (AddsFronts (D.written desk.old) (D.written desk.new) (only out text.now)) }
-    ensures write_fault { IsErrOf result Stop.WriteFault → Rose (D.write_faults desk.old) (D.write_faults desk.new) }
+    ensures err { OnErr result
+        (AddsFronts (D.written desk.old) (D.written desk.new) (only out text.now)) }
+    ensures write_fault { IsErrOf result Stop.WriteFault
+        → Rose (D.write_faults desk.old) (D.write_faults desk.new) }
     ensures no_read_fault { IsErrOf result Stop.ReadFault → ⊥ }
     ensures count { D.write_faults desk.old ≤ D.write_faults desk.new }
 

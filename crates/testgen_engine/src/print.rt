@@ -42,9 +42,14 @@ fn print_test<D: Desk>(
     test: &Test,
 ) -> Result<(), Stop>
     requires { length verdicts.now ≤ 2000 }
-    ensures ok { OnOk result (Adds (D.written desk.old) (D.written desk.new) (only (out.Test number) (test_text number (credits verdicts.now number) test.now))) }
-    ensures err { OnErr result (AddsFronts (D.written desk.old) (D.written desk.new) (only (out.Test number) (test_text number (credits verdicts.now number) test.now))) }
-    ensures write_fault { IsErrOf result Stop.WriteFault → Rose (D.write_faults desk.old) (D.write_faults desk.new) }
+    ensures ok { OnOk result
+        (Adds (D.written desk.old) (D.written desk.new)
+        (only (out.Test number) (test_text number (credits verdicts.now number) test.now))) }
+    ensures err { OnErr result
+        (AddsFronts (D.written desk.old) (D.written desk.new)
+        (only (out.Test number) (test_text number (credits verdicts.now number) test.now))) }
+    ensures write_fault { IsErrOf result Stop.WriteFault
+        → Rose (D.write_faults desk.old) (D.write_faults desk.new) }
     ensures no_read_fault { IsErrOf result Stop.ReadFault → ⊥ }
     ensures count { D.write_faults desk.old ≤ D.write_faults desk.new }
 
@@ -67,9 +72,13 @@ fn print_tests<D: Desk>(
 ) -> Result<(), Stop>
     requires verdicts { length verdicts.now ≤ 2000 }
     requires tests { length tests.now ≤ 2000 }
-    ensures ok { OnOk result (Adds (D.written desk.old) (D.written desk.new) (tests_text verdicts.now 1 tests.now)) }
-    ensures err { OnErr result (AddsFronts (D.written desk.old) (D.written desk.new) (tests_text verdicts.now 1 tests.now)) }
-    ensures write_fault { IsErrOf result Stop.WriteFault → Rose (D.write_faults desk.old) (D.write_faults desk.new) }
+    ensures ok { OnOk result
+        (Adds (D.written desk.old) (D.written desk.new) (tests_text verdicts.now 1 tests.now)) }
+    ensures err { OnErr result
+        (AddsFronts (D.written desk.old) (D.written desk.new)
+        (tests_text verdicts.now 1 tests.now)) }
+    ensures write_fault { IsErrOf result Stop.WriteFault
+        → Rose (D.write_faults desk.old) (D.write_faults desk.new) }
     ensures no_read_fault { IsErrOf result Stop.ReadFault → ⊥ }
     ensures count { D.write_faults desk.old ≤ D.write_faults desk.new }
 
@@ -94,9 +103,14 @@ pub fn print<D: Desk>(
 ) -> Result<(), Stop>
     requires verdicts { length decided.now.verdicts ≡ length program.now.statements }
     requires tests { length decided.now.tests ≤ 2000 }
-    ensures ok { OnOk result (Adds (D.written desk.old) (D.written desk.new) (text_of (findings bounds program.now decided.now))) }
-    ensures err { OnErr result (AddsFronts (D.written desk.old) (D.written desk.new) (text_of (findings bounds program.now decided.now))) }
-    ensures write_fault { IsErrOf result Stop.WriteFault → Rose (D.write_faults desk.old) (D.write_faults desk.new) }
+    ensures ok { OnOk result
+        (Adds (D.written desk.old) (D.written desk.new)
+        (text_of (findings bounds program.now decided.now))) }
+    ensures err { OnErr result
+        (AddsFronts (D.written desk.old) (D.written desk.new)
+        (text_of (findings bounds program.now decided.now))) }
+    ensures write_fault { IsErrOf result Stop.WriteFault
+        → Rose (D.write_faults desk.old) (D.write_faults desk.new) }
     ensures no_read_fault { IsErrOf result Stop.ReadFault → ⊥ }
 
     // What stays.

@@ -43,7 +43,8 @@ fn push_statement(
     place: Span,
     verdict: Verdict,
 ) -> Result<(), AllocError>
-    ensures { OnOk result (string_bytes text.new ≡ string_bytes text.old ++ statement_line number place verdict) }
+    ensures { OnOk result
+        (string_bytes text.new ≡ string_bytes text.old ++ statement_line number place verdict) }
 {
     let Span { line, column } = place;
     writeln!(text, "{number} {line}:{column} {verdict}")
@@ -51,7 +52,8 @@ fn push_statement(
 
 /// Adds the line of an undecided nibble.
 fn push_nibble(text: &mut String, test: usize, place: usize) -> Result<(), AllocError>
-    ensures { OnOk result (string_bytes text.new ≡ string_bytes text.old ++ nibble_line test place) }
+    ensures { OnOk result
+        (string_bytes text.new ≡ string_bytes text.old ++ nibble_line test place) }
 {
     writeln!(text, "test {test} nibble {place} undecided")
 }
@@ -63,7 +65,8 @@ fn push_statements(
     verdicts: &[Verdict],
 ) -> Result<(), AllocError>
     requires { length statements.now ≡ length verdicts.now }
-    ensures { OnOk result (string_bytes text.new ≡ string_bytes text.old ++ statement_lines 1 statements.now verdicts.now) }
+    ensures { OnOk result
+        (string_bytes text.new ≡ string_bytes text.old ++ statement_lines 1 statements.now verdicts.now) }
 {
     for (index, statement) in statements.iter().enumerate() {
         push_statement(text, index + 1, statement.place, verdicts[index])?;
@@ -73,7 +76,8 @@ fn push_statements(
 
 /// Adds the lines of a test's undecided nibbles, and answers how many there are.
 fn push_nibbles(text: &mut String, test: usize, nibbles: &[Nibble]) -> Result<usize, AllocError>
-    ensures lines { OnOk result (string_bytes text.new ≡ string_bytes text.old ++ nibble_lines test 0 nibbles.now) }
+    ensures lines { OnOk result
+        (string_bytes text.new ≡ string_bytes text.old ++ nibble_lines test 0 nibbles.now) }
     ensures count { IfOk result (λ count. count ≡ count_by is_undecided nibbles.now) }
 {
     let mut count = 0;
@@ -138,7 +142,8 @@ fn undecided_count(verdicts: &[Verdict]) -> usize
 
 /// Adds the lines of the tests' undecided nibbles, and answers how many there are.
 fn push_undecided(text: &mut String, tests: &[Test]) -> Result<u128, AllocError>
-    ensures lines { OnOk result (string_bytes text.new ≡ string_bytes text.old ++ undecided_lines 1 tests.now) }
+    ensures lines { OnOk result
+        (string_bytes text.new ≡ string_bytes text.old ++ undecided_lines 1 tests.now) }
     ensures count { IfOk result (λ count. count ≡ undecided_nibbles tests.now) }
 {
     let mut count = 0u128;
@@ -208,7 +213,8 @@ pub fn write_report(
     tests: &[Test],
 ) -> Result<String, AllocError>
     requires { length verdicts.now ≡ length program.now.statements }
-    ensures { IfOk result (λ text. string_bytes text ≡ report_text bounds program.now verdicts.now tests.now) }
+    ensures { IfOk result
+        (λ text. string_bytes text ≡ report_text bounds program.now verdicts.now tests.now) }
 {
     let mut text = String::new(alloc);
     push_bounds(&mut text, bounds)?;

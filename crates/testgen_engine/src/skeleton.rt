@@ -63,7 +63,8 @@ fn end_of_assignment() -> &'static [u8]
 
 /// What follows a text's front, where the text begins so.
 fn after<'a>(text: &'a [u8], front: &[u8]) -> Option<&'a [u8]>
-    ensures { MatchOption result ((rest : List ℕ) → text.now ≢ front.now ++ rest) (λ rest. text.now ≡ front.now ++ rest.now) }
+    ensures { MatchOption result ((rest : List ℕ)
+        → text.now ≢ front.now ++ rest) (λ rest. text.now ≡ front.now ++ rest.now) }
 {
     text.strip_prefix(front)
 }
@@ -97,7 +98,8 @@ fn is_plain(digits: &[u8]) -> bool
 
 /// The number of nine bits that a text begins with, and what follows it.
 fn leading_number(text: &[u8]) -> Option<(u16, &[u8])>
-    ensures { MatchOption result (IsNoNumber text.now) (λ found. IsNumberAt text.now found.0 found.1.now) }
+    ensures { MatchOption result (IsNoNumber text.now)
+        (λ found. IsNumberAt text.now found.0 found.1.now) }
 {
     let (digits, rest) = text.split_at(digit_count(text));
     if !is_plain(digits) {
@@ -113,7 +115,8 @@ fn leading_number(text: &[u8]) -> Option<(u16, &[u8])>
 
 /// The statement whose line a text begins with, and what follows the line.
 fn first_line(text: &[u8]) -> Option<(StatementKind, &[u8])>
-    ensures line { MatchOption result (IsNoLine text.now) (λ found. IsLineAt text.now found.0 found.1.now) }
+    ensures line { MatchOption result (IsNoLine text.now)
+        (λ found. IsLineAt text.now found.0 found.1.now) }
     ensures shorter { IfSome result (λ found. length found.1.now < length text.now) }
 {
     if let Some(rest) = after(text, drop_line()) {
@@ -136,7 +139,8 @@ fn first_line(text: &[u8]) -> Option<(StatementKind, &[u8])>
 
 /// The statements of a text that is their lines and the skeleton's end.
 fn kinds_of(alloc: Global, body: &[u8]) -> Result<Option<Items<StatementKind>>, AllocError>
-    ensures { IfOk result (λ found. MatchOption found (IsNoBody body.now) (λ kinds. IsBody body.now kinds)) }
+    ensures { IfOk result
+        (λ found. MatchOption found (IsNoBody body.now) (λ kinds. IsBody body.now kinds)) }
 {
     let mut kinds = Items::new(alloc);
     let mut rest = body;
@@ -167,7 +171,9 @@ fn placed(alloc: Global, kinds: &[StatementKind]) -> Result<Items<Statement>, Al
 
 /// The program of a source, where it is built.
 pub fn program_of(alloc: Global, source: &[u8]) -> Result<Option<Program>, AllocError>
-    ensures { IfOk result (λ found. MatchOption found (IsNotBuilt source.now) (λ program. StandsFor source.now program)) }
+    ensures { IfOk result
+        (λ found. MatchOption found (IsNotBuilt source.now)
+        (λ program. StandsFor source.now program)) }
 {
     let Some(body) = after(source, head()) else {
         return Ok(None);

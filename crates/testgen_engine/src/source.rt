@@ -33,9 +33,11 @@ fn read_piece<D: Desk>(desk: &mut D, bytes: &mut Vec<u8>) -> Result<bool, Stop>
     ensures room { vec_len bytes.new ≤ 262145 }
     ensures more { IfOk result (λ more. IsTrue more → vec_len bytes.old < vec_len bytes.new) }
     ensures readable { IfOk result (λ more. IsTrue more → IsTrue (D.readable desk.new)) }
-    ensures moved { OnOk result (MovesOn (D.rest desk.old) bytes.old.items (D.rest desk.new) bytes.new.items) }
+    ensures moved { OnOk result
+        (MovesOn (D.rest desk.old) bytes.old.items (D.rest desk.new) bytes.new.items) }
     ensures at_end { IfOk result (λ more. more ≡ false → AtEnd (D.rest desk.old)) }
-    ensures read_fault { IsErrOf result Stop.ReadFault → Rose (D.read_faults desk.old) (D.read_faults desk.new) }
+    ensures read_fault { IsErrOf result Stop.ReadFault
+        → Rose (D.read_faults desk.old) (D.read_faults desk.new) }
     ensures no_write_fault { IsErrOf result Stop.WriteFault → ⊥ }
     ensures count { D.read_faults desk.old ≤ D.read_faults desk.new }
 
@@ -61,8 +63,10 @@ fn read_piece<D: Desk>(desk: &mut D, bytes: &mut Vec<u8>) -> Result<bool, Stop>
 /// Reads what is left of the open file, up to `MOST_BYTES`.
 fn read_rest<D: Desk>(alloc: Global, desk: &mut D) -> Result<Vec<u8>, Stop>
     requires { IsTrue (D.readable desk.old) }
-    ensures front { IfOk result (λ bytes. IsFront 262145 (D.rest desk.old) bytes.items × (length bytes.items ≤ 262145)) }
-    ensures read_fault { IsErrOf result Stop.ReadFault → Rose (D.read_faults desk.old) (D.read_faults desk.new) }
+    ensures front { IfOk result (λ bytes. IsFront 262145 (D.rest desk.old) bytes.items
+        × (length bytes.items ≤ 262145)) }
+    ensures read_fault { IsErrOf result Stop.ReadFault
+        → Rose (D.read_faults desk.old) (D.read_faults desk.new) }
     ensures no_write_fault { IsErrOf result Stop.WriteFault → ⊥ }
     ensures count { D.read_faults desk.old ≤ D.read_faults desk.new }
 
@@ -83,10 +87,12 @@ fn read_rest<D: Desk>(alloc: Global, desk: &mut D) -> Result<Vec<u8>, Stop>
 
 /// Opens the source of this name and reads it, up to `MOST_BYTES`.
 pub fn read_source<D: Desk>(alloc: Global, name: &str, desk: &mut D) -> Result<Vec<u8>, Stop>
-    ensures source { IfOk result (λ bytes. (whole : List ℕ) × HasFile (D.files desk.old) name.now whole
+    ensures source { IfOk result (λ bytes. (whole : List ℕ)
+        × HasFile (D.files desk.old) name.now whole
         × (bytes.items ≡ take 262145 whole)) }
     ensures asked { AsksFront (D.asked desk.old) (D.asked desk.new) (name.now ∷ []) }
-    ensures read_fault { IsErrOf result Stop.ReadFault → Rose (D.read_faults desk.old) (D.read_faults desk.new) }
+    ensures read_fault { IsErrOf result Stop.ReadFault
+        → Rose (D.read_faults desk.old) (D.read_faults desk.new) }
     ensures no_write_fault { IsErrOf result Stop.WriteFault → ⊥ }
 
     // What stays.

@@ -10,7 +10,8 @@ use std::alloc::{AllocError, Global};
 
 /// Adds the line with the number of a test and the statements that it is credited with.
 fn push_title(text: &mut String, number: u32, statements: &[u32]) -> Result<(), AllocError>
-    ensures { OnOk result (string_bytes text.new ≡ string_bytes text.old ++ title_line number statements.now) }
+    ensures { OnOk result
+        (string_bytes text.new ≡ string_bytes text.old ++ title_line number statements.now) }
 {
     write!(text, "# test {number} covers")?;
     for statement in statements {
@@ -42,7 +43,8 @@ fn push_nibble(text: &mut String, nibble: Nibble) -> Result<(), AllocError>
 /// Adds the line of what is expected, none where no packet is.
 fn push_expected(text: &mut String, expected: &Expected) -> Result<(), AllocError>
     requires { IsTrue (is_printable expected.now) }
-    ensures { OnOk result (string_bytes text.new ≡ string_bytes text.old ++ expect_line expected.now) }
+    ensures { OnOk result
+        (string_bytes text.new ≡ string_bytes text.old ++ expect_line expected.now) }
 {
     let Expected::Packet { port, nibbles } = expected else {
         return Ok(());

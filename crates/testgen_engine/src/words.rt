@@ -11,7 +11,8 @@ fn is_name(word: &str) -> bool
 
 /// The name of the source for which the words ask for tests, where they do.
 pub fn source_name(words: &[String]) -> Option<&str>
-    ensures { MatchOption result (AsksNothing (map string_bytes words.now)) (λ name. AsksGen (map string_bytes words.now) name.now) }
+    ensures { MatchOption result (AsksNothing (map string_bytes words.now))
+        (λ name. AsksGen (map string_bytes words.now) name.now) }
 {
     match words {
         [verb, name] if verb.as_str() == "gen" && is_name(name.as_str()) => Some(name.as_str()),

@@ -87,7 +87,7 @@ const REFUSED: [&str; 8] = [
 ];
 
 /// The skeleton with statements.
-fn source(alloc: Global, statements: &str) -> Result<String, AllocError> {
+pub fn source(alloc: Global, statements: &str) -> Result<String, AllocError> {
     format!(in alloc; "{HEAD}{statements}{TAIL}")
 }
 

@@ -1,10 +1,12 @@
 //! The desk in a real folder, and over streams that take little or are interrupted.
 use super::FileDesk;
+use crate::rows::source;
 use std::fs::Files;
 use std::io::{self, Cursor, Write};
 use std::process::{self, Abort};
 use std::test::Fail;
 use std::{env, fs};
+use testgen_engine::testgen;
 use tg_base::{Desk, DeskFault, Out};
 
 /// Makes a folder with a source, an older test and a folder in place of a test, and goes there.
@@ -85,6 +87,36 @@ fn keeps_files_of_a_folder(rt: HostRuntime) -> Result<(), Fail> {
     files_hold_what_was_written(&rt)?;
     assert_eq!(rt; desk.report.as_slice(), b"one9th".as_slice());
     assert_eq!(rt; desk.notes.as_slice(), b"5th".as_slice());
+    fs::remove_dir_all(&rt, folder.as_str())?;
+    Ok(())
+}
+
+#[test]
+fn generates_in_a_folder(rt: HostRuntime) -> Result<(), Fail> {
+    let alloc = rt.alloc();
+    let folder = enter_new_folder(rt)?;
+    fs::write(
+        &rt,
+        "b.p4",
+        source(alloc, "    s.egress_spec = 3;\n")?.as_str(),
+    )?;
+    let words = vec![in alloc;
+        String::from_str(alloc, "gen")?,
+        String::from_str(alloc, "b.p4")?,
+    ]?;
+    let mut desk = FileDesk::new(alloc, rt, Vec::new(alloc), Vec::new(alloc));
+    let status = testgen(alloc, words.as_slice(), &mut desk);
+    assert_eq!(rt; status, 0);
+    let test = fs::read_to_string(&rt, "test_1.stf")?;
+    assert_eq!(rt;
+        test.as_str(),
+        "# test 1 covers 1\npacket 0 0000000000000000000000000000\nexpect 3 0000000000000000000000000000$\n"
+    );
+    assert_eq!(rt;
+        desk.report.as_slice(),
+        b"bounds bytes 128 steps 12 entries 1 budget 2000\n1 11:5 covered 1\nstatements 1 covered 1 unreachable 0 unsteady 0 undecided 0 tests 1 nibbles 0\n".as_slice()
+    );
+    assert_eq!(rt; desk.notes.len(), 0);
     fs::remove_dir_all(&rt, folder.as_str())?;
     Ok(())
 }
