@@ -1,5 +1,6 @@
 //! Worked rows: jobs over a desk in memory, with their status and what each output then holds.
 use std::alloc::{AllocError, Global};
+use std::process::Abort;
 use std::test::Fail;
 use testgen_engine::testgen;
 use tg_base::{MemDesk, Out};
@@ -91,32 +92,45 @@ pub fn source(alloc: Global, statements: &str) -> Result<String, AllocError> {
     format!(in alloc; "{HEAD}{statements}{TAIL}")
 }
 
-/// A desk with the source under the name `a.p4`, and calls that fail.
+/// A desk with the source under the name `a.p4`, where the calls of these numbers fail, if any.
 fn desk_of(
     alloc: Global,
     source: Vec<u8>,
-    failing_reads: &[u64],
-    failing_writes: &[u64],
+    failing_read: u64,
+    failing_write: u64,
 ) -> Result<MemDesk, AllocError> {
     let files = vec![in alloc; (String::from_str(alloc, "a.p4")?, source)]?;
-    let failing_reads = Vec::from_slice(alloc, failing_reads)?;
-    let failing_writes = Vec::from_slice(alloc, failing_writes)?;
+    let failing_reads = vec![in alloc; failing_read]?;
+    let failing_writes = vec![in alloc; failing_write]?;
     Ok(MemDesk::new(alloc, files, failing_reads, failing_writes))
 }
 
-/// Words of a command line.
-fn words_of(alloc: Global, words: &[&str]) -> Result<Vec<String>, AllocError> {
-    let mut owned = Vec::new(alloc);
-    for word in words {
-        owned.push(String::from_str(alloc, word)?)?;
+/// The words of a command line, parted by blanks.
+fn words_of(alloc: Global, line: &str) -> Result<Vec<String>, AllocError> {
+    let mut words = Vec::new(alloc);
+    for word in line.split(' ') {
+        words.push(String::from_str(alloc, word)?)?;
     }
-    Ok(owned)
+    Ok(words)
 }
 
-/// The status of `gen a.p4` over a desk.
-fn gen_status(alloc: Global, desk: &mut MemDesk) -> Result<u8, AllocError> {
-    let words = words_of(alloc, &["gen", "a.p4"])?;
+/// The status of a command line over a desk.
+fn status_of(alloc: Global, line: &str, desk: &mut MemDesk) -> Result<u8, AllocError> {
+    let words = words_of(alloc, line)?;
     Ok(testgen(alloc, words.as_slice(), desk))
+}
+
+/// Asserts what an output holds.
+fn assert_holds(rt: &impl Abort, desk: &MemDesk, out: Out, want: &str, row: &str) {
+    assert_eq!(rt; desk.written(out), want.as_bytes(), "{out:?} of {row}");
+}
+
+/// Asserts that nothing was written but these notes.
+fn assert_notes(rt: &impl Abort, desk: &MemDesk, notes: &str, row: &str) {
+    assert_holds(rt, desk, Out::Notes, notes, row);
+    for out in [Out::Report, Out::Proofs, Out::Test(1), Out::Test(2)] {
+        assert_holds(rt, desk, out, "", row);
+    }
 }
 
 #[test]
@@ -124,19 +138,15 @@ fn rows_are_done(rt: HostRuntime) -> Result<(), Fail> {
     let alloc = rt.alloc();
     for row in &ROWS {
         let name = row.statements;
-        let source = source(alloc, row.statements)?;
-        let mut desk = desk_of(alloc, source.as_bytes().to_vec(alloc)?, &[], &[])?;
-        let status = gen_status(alloc, &mut desk)?;
+        let source = source(alloc, name)?;
+        let mut desk = desk_of(alloc, source.as_bytes().to_vec(alloc)?, 0, 0)?;
+        let status = status_of(alloc, "gen a.p4", &mut desk)?;
         assert_eq!(rt; status, 0, "{name}");
         let report = format!(in alloc; "{BOUNDS}{}", row.report)?;
-        for (out, want) in [
-            (Out::Report, report.as_str()),
-            (Out::Test(1), row.test),
-            (Out::Test(2), ""),
-            (Out::Proofs, ""),
-            (Out::Notes, ""),
-        ] {
-            assert_eq!(rt; desk.written(out), want.as_bytes(), "{out:?} of {name}");
+        assert_holds(&rt, &desk, Out::Report, report.as_str(), name);
+        assert_holds(&rt, &desk, Out::Test(1), row.test, name);
+        for out in [Out::Test(0), Out::Test(2), Out::Proofs, Out::Notes] {
+            assert_holds(&rt, &desk, out, "", name);
         }
     }
     Ok(())
@@ -156,13 +166,10 @@ fn other_sources_are_refused(rt: HostRuntime) -> Result<(), Fail> {
         sources.push(source.as_bytes().to_vec(alloc)?)?;
     }
     for source in sources {
-        let mut desk = desk_of(alloc, source, &[], &[])?;
-        let status = gen_status(alloc, &mut desk)?;
+        let mut desk = desk_of(alloc, source, 0, 0)?;
+        let status = status_of(alloc, "gen a.p4", &mut desk)?;
         assert_eq!(rt; status, 2);
-        assert_eq!(rt; desk.written(Out::Notes), NOT_BUILT.as_bytes());
-        for out in [Out::Report, Out::Proofs, Out::Test(1)] {
-            assert_eq!(rt; desk.written(out).len(), 0, "{out:?}");
-        }
+        assert_notes(&rt, &desk, NOT_BUILT, "a source that is not built");
     }
     Ok(())
 }
@@ -170,73 +177,56 @@ fn other_sources_are_refused(rt: HostRuntime) -> Result<(), Fail> {
 #[test]
 fn other_words_are_wrong(rt: HostRuntime) -> Result<(), Fail> {
     let alloc = rt.alloc();
-    for words in [
-        [].as_slice(),
-        ["gen"].as_slice(),
-        ["gen", ""].as_slice(),
-        ["gen", "--bytes"].as_slice(),
-        ["gen", "a.p4", "--bytes", "0"].as_slice(),
-        ["Gen", "a.p4"].as_slice(),
-        ["replay", "a.p4", "test_1.stf", "zeros"].as_slice(),
-        ["load", "7", "200"].as_slice(),
+    for line in [
+        "",
+        "gen",
+        "gen ",
+        "gen --bytes",
+        "gen a.p4 --bytes 0",
+        "Gen a.p4",
+        "replay a.p4 test_1.stf zeros",
+        "load 7 200",
     ] {
-        let source = source(alloc, ROWS[0].statements)?;
-        let mut desk = desk_of(alloc, source.as_bytes().to_vec(alloc)?, &[1], &[])?;
-        let words = words_of(alloc, words)?;
-        let status = testgen(alloc, words.as_slice(), &mut desk);
-        assert_eq!(rt; status, 1);
-        assert_eq!(rt; desk.written(Out::Notes), USAGE.as_bytes());
-        assert_eq!(rt; desk.written(Out::Report).len(), 0);
+        let source = source(alloc, "")?;
+        let mut desk = desk_of(alloc, source.as_bytes().to_vec(alloc)?, 1, 0)?;
+        let status = status_of(alloc, line, &mut desk)?;
+        assert_eq!(rt; status, 1, "{line}");
+        assert_notes(&rt, &desk, USAGE, line);
     }
+    let mut desk = desk_of(alloc, Vec::new(alloc), 1, 0)?;
+    let status = testgen(alloc, &[], &mut desk);
+    assert_eq!(rt; status, 1);
     Ok(())
 }
 
-/// The skeleton's run opens, reads twice, and writes twice. A call past these is not made.
+/// The skeleton's run opens, reads twice, and writes the test and the report: the calls past these
+/// are not made.
 #[test]
 fn faults_end_a_run_early(rt: HostRuntime) -> Result<(), Fail> {
     let alloc = rt.alloc();
-    let row = &ROWS[0];
-    let report = format!(in alloc; "{BOUNDS}{}", row.report)?;
-    for (failing_reads, failing_writes, want, test, written, notes) in [
-        ([1].as_slice(), [].as_slice(), 4, "", "", "read fault\n"),
-        ([2].as_slice(), [].as_slice(), 4, "", "", "read fault\n"),
-        ([3].as_slice(), [].as_slice(), 4, "", "", "read fault\n"),
-        (
-            [4].as_slice(),
-            [].as_slice(),
-            0,
-            row.test,
-            report.as_str(),
-            "",
-        ),
-        ([].as_slice(), [1].as_slice(), 5, "", "", ""),
-        ([].as_slice(), [2].as_slice(), 5, row.test, "", ""),
-        (
-            [].as_slice(),
-            [3].as_slice(),
-            0,
-            row.test,
-            report.as_str(),
-            "",
-        ),
-        ([1].as_slice(), [1].as_slice(), 5, "", "", ""),
+    let source = source(alloc, ROWS[0].statements)?;
+    let report = format!(in alloc; "{BOUNDS}{}", ROWS[0].report)?;
+    for (failing_read, failing_write, want, written) in [
+        (0, 0, 0, 2),
+        (1, 0, 4, 0),
+        (2, 0, 4, 0),
+        (3, 0, 4, 0),
+        (4, 0, 0, 2),
+        (0, 1, 5, 0),
+        (0, 2, 5, 1),
+        (0, 3, 0, 2),
+        (1, 1, 5, 0),
     ] {
-        let source = source(alloc, row.statements)?;
         let bytes = source.as_bytes().to_vec(alloc)?;
-        let mut desk = desk_of(alloc, bytes, failing_reads, failing_writes)?;
-        let status = gen_status(alloc, &mut desk)?;
-        assert_eq!(rt; status, want, "{failing_reads:?} {failing_writes:?}");
-        for (out, want) in [
-            (Out::Test(1), test),
-            (Out::Report, written),
-            (Out::Notes, notes),
-        ] {
-            assert_eq!(rt;
-                desk.written(out),
-                want.as_bytes(),
-                "{failing_reads:?} {failing_writes:?}"
-            );
-        }
+        let mut desk = desk_of(alloc, bytes, failing_read, failing_write)?;
+        let status = status_of(alloc, "gen a.p4", &mut desk)?;
+        assert_eq!(rt; status, want, "read {failing_read}, write {failing_write}");
+        let test = if written > 0 { ROWS[0].test } else { "" };
+        assert_holds(&rt, &desk, Out::Test(1), test, "faults");
+        let report = if written > 1 { report.as_str() } else { "" };
+        assert_holds(&rt, &desk, Out::Report, report, "faults");
+        let notes = if want == 4 { "read fault\n" } else { "" };
+        assert_holds(&rt, &desk, Out::Notes, notes, "faults");
     }
     Ok(())
 }
@@ -244,10 +234,9 @@ fn faults_end_a_run_early(rt: HostRuntime) -> Result<(), Fail> {
 #[test]
 fn a_missing_file_is_a_read_fault(rt: HostRuntime) -> Result<(), Fail> {
     let alloc = rt.alloc();
-    let mut desk = desk_of(alloc, Vec::new(alloc), &[], &[])?;
-    let words = words_of(alloc, &["gen", "b.p4"])?;
-    let status = testgen(alloc, words.as_slice(), &mut desk);
+    let mut desk = desk_of(alloc, Vec::new(alloc), 0, 0)?;
+    let status = status_of(alloc, "gen b.p4", &mut desk)?;
     assert_eq!(rt; status, 4);
-    assert_eq!(rt; desk.written(Out::Notes), b"read fault\n".as_slice());
+    assert_notes(&rt, &desk, "read fault\n", "a missing file");
     Ok(())
 }
