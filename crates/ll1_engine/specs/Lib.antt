@@ -1,0 +1,5 @@
+pub mod Table
+pub mod Trees
+pub mod First
+pub mod Conditions
+pub mod Parse

@@ -1,0 +1,126 @@
+//! The grammar as data: symbols, rows and the table of all rows.
+
+ghost use Rattle.std.specs.Prelude.{◌≡◌, ℕ, ◌<◌, ◌↔◌, ◌++◌, [], ◌∷◌, List, length, IsSome, IfSome, IfOk, OnOk, OnErr};
+ghost use Rattle.ll1_engine.specs.Table.{FitsIn};
+
+use std::alloc::{AllocError, Global};
+use std::marker::Model;
+
+/// A symbol's number. Symbol 0 is the start; a symbol that is the left of no row is a token.
+pub type Symbol = usize;
+
+/// A symbol that is the left of no row.
+pub type Token = Symbol;
+
+/// A list of symbols.
+#[derive(Debug, Drop)]
+pub struct Symbols {
+    items: Vec<Symbol>,
+}
+
+impl Model for Symbols {
+    ghost use Rattle.std.specs.Prelude.{ℕ, List};
+
+    ghost Value = { List ℕ };
+
+    ghost view = { λ s. s.items.items };
+}
+
+impl Symbols {
+    pub fn new(alloc: Global) -> Self
+        ensures { result ≡ [] }
+    {
+        Symbols {
+            items: Vec::new(alloc),
+        }
+    }
+
+    pub fn from_slice(alloc: Global, symbols: &[Symbol]) -> Result<Self, AllocError>
+        ensures { IfOk result (λ s. s ≡ symbols.now) }
+    {
+        let items = Vec::from_slice(alloc, symbols)?;
+        Ok(Symbols { items })
+    }
+
+    pub fn as_slice(&self) -> &[Symbol]
+        ensures { result.now ≡ self.now }
+    {
+        self.items.as_slice()
+    }
+}
+
+/// A row of a grammar: its left symbol stands for the symbols of its right side, in order. A rank above 0
+/// lets the row be taken wherever its first token stands next.
+#[derive(Debug, Drop)]
+pub struct Row {
+    pub left: Symbol,
+    pub right: Symbols,
+    pub rank: u32,
+}
+
+/// A list of rows. A row is named by its place, from 0 on.
+#[derive(Debug, Drop)]
+pub struct Rows {
+    items: Vec<Row>,
+}
+
+impl Model for Rows {
+    ghost use Rattle.std.specs.Prelude.{List};
+    ghost use Rattle.ll1_engine.specs.declared.grammar.Row.{Row};
+
+    ghost Value = { List Row };
+
+    ghost view = { λ r. r.items.items };
+}
+
+impl Rows {
+    pub fn new(alloc: Global) -> Self
+        ensures { result ≡ [] }
+    {
+        Rows {
+            items: Vec::new(alloc),
+        }
+    }
+
+    pub fn push(&mut self, row: Row) -> Result<(), AllocError>
+        ensures ok { OnOk result (self.new ≡ self.old ++ row ∷ []) }
+        ensures err { OnErr result (self.new ≡ self.old) }
+    {
+        self.items.push(row)?;
+        Ok(())
+    }
+
+    pub fn as_slice(&self) -> &[Row]
+        ensures { result.now ≡ self.now }
+    {
+        self.items.as_slice()
+    }
+}
+
+/// A grammar of `S` symbols and `R` rows.
+#[derive(Debug, Drop)]
+pub struct Grammar<const S: usize, const R: usize> {
+    rows: Rows,
+}
+
+impl<const S: usize, const R: usize> Model for Grammar<S, R> {
+    ghost use Rattle.std.specs.Prelude.{List};
+    ghost use Rattle.ll1_engine.specs.declared.grammar.Row.{Row};
+    ghost use Rattle.ll1_engine.specs.Table.{FitsIn};
+
+    ghost Value = { List Row };
+
+    ghost view = { λ g. g.rows };
+
+    ghost invariant = { λ g. FitsIn S R g.rows };
+}
+
+impl<const S: usize, const R: usize> Grammar<S, R> {
+    pub fn rows(&self) -> &[Row]
+        ensures same { result.now ≡ self.now }
+        ensures fits { FitsIn S R self.now }
+    {
+        let _rows = &self.rows;
+        self.rows.as_slice()
+    }
+}
