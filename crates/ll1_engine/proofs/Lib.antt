@@ -1,0 +1,5 @@
+pub mod Beside
+pub mod Begins
+pub mod Swap
+pub mod Choice
+pub mod Steps

@@ -3,3 +3,4 @@ pub mod Trees
 pub mod First
 pub mod Conditions
 pub mod Parse
+pub mod Prediction
