@@ -105,16 +105,16 @@ Follows-row g k r before (y ∷ ys) xs h e f =
      Follows-row g k r (before ++ y ∷ []) ys xs h (e ∙ sym (append_assoc before (y ∷ []) ys)) f)
 
 -- the symbols at the left of a row
-abbrev is_left : List Row → ℕ → Bool
+abbrev pub is_left : List Row → ℕ → Bool
 is_left [] x = false
 is_left (r ∷ g) x = eqb r.left x || is_left g x
 
-left_is : (g : List Row) (k : ℕ) (r : Row) → IsRow g k r → is_left g r.left ≡ true
+pub left_is : (g : List Row) (k : ℕ) (r : Row) → IsRow g k r → is_left g r.left ≡ true
 left_is [] k r h = absurd (cc)
 left_is (s ∷ g) zero r h = let e : s ≡ r = cc in or_left (eqb s.left r.left) (is_left g r.left) (eq-eqb s.left r.left (ap (λ (q : Row). q.left) e))
 left_is (s ∷ g) (suc k) r h = or_right (eqb s.left r.left) (is_left g r.left) (left_is g k r h)
 
-row_of_left : (g : List Row) (x : ℕ) → is_left g x ≡ true → (k : ℕ) × (r : Row) × IsRow g k r × (r.left ≡ x)
+pub row_of_left : (g : List Row) (x : ℕ) → is_left g x ≡ true → (k : ℕ) × (r : Row) × IsRow g k r × (r.left ≡ x)
 row_of_left [] x h = absurd (cc)
 row_of_left (s ∷ g) x h =
     elim (or_cases (eqb s.left x) (is_left g x) h) [

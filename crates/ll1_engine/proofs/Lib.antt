@@ -3,3 +3,4 @@ pub mod Begins
 pub mod Swap
 pub mod Choice
 pub mod Steps
+pub mod Stops
