@@ -4,3 +4,4 @@ pub mod Swap
 pub mod Choice
 pub mod Steps
 pub mod Stops
+pub mod Parsing

@@ -3,8 +3,12 @@
 //! past which no list with a tree can go on.
 #![tactic(auto)]
 
+mod checked;
 mod fault;
 mod grammar;
+mod parser;
 
+pub use checked::Checked;
 pub use fault::{Break, CheckFault, ParseFault, Stop, TableFault};
 pub use grammar::{Grammar, Row, Rows, Symbol, Symbols, Token};
+pub use parser::{Tree, parse};

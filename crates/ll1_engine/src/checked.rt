@@ -1,0 +1,107 @@
+//! A table that meets the five conditions, with the prediction that a parse reads.
+
+ghost use Rattle.std.specs.Prelude.{◌≡◌, ℕ, ◌<◌, ◌↔◌, ◌++◌, ◌∷◌, [], List, Some, None, length, slice_get, slice_index_or, IsTrue, IfOk, OnOk, OnErr};
+ghost use Rattle.std.specs.Option.{ForSome};
+ghost use Rattle.ll1_engine.specs.Table.{IsToken, FitsIn};
+ghost use Rattle.ll1_engine.specs.Conditions.{IsGood};
+ghost use Rattle.ll1_engine.specs.Prediction.{PicksFirst, PicksNullable, Predicts};
+
+use crate::grammar::{Row, Rows, Symbol, Token};
+
+use std::alloc::{AllocError, Global};
+use std::marker::Model;
+
+/// For each symbol a row, or none.
+#[derive(Debug, Drop)]
+pub(crate) struct Choices {
+    rows: Vec<Option<usize>>,
+}
+
+impl Model for Choices {
+    ghost use Rattle.std.specs.Prelude.{List, ℕ, Option};
+
+    ghost Value = { List (Option ℕ) };
+
+    ghost view = { λ c. c.rows.items };
+}
+
+impl Choices {
+    fn get(&self, symbol: Symbol) -> Option<usize>
+        requires { symbol < length self.now }
+        ensures { result ≡ slice_index_or self.now symbol None }
+    {
+        self.rows[symbol]
+    }
+}
+
+/// A grammar whose rows meet the five conditions.
+#[derive(Debug, Drop)]
+pub struct Checked<const S: usize, const R: usize> {
+    rows: Rows,
+    tokens: Vec<bool>,
+    firsts: Vec<Choices>,
+    nullables: Choices,
+}
+
+impl<const S: usize, const R: usize> Model for Checked<S, R> {
+    ghost use Rattle.std.specs.Prelude.{List};
+    ghost use Rattle.ll1_engine.specs.declared.grammar.Row.{Row};
+    ghost use Rattle.ll1_engine.specs.Prediction.{IsPrepared};
+
+    ghost Value = { List Row };
+
+    ghost view = { λ c. c.rows };
+
+    ghost invariant = { λ c. IsPrepared S R c.rows c.tokens.items c.firsts.items c.nullables };
+}
+
+impl<const S: usize, const R: usize> Checked<S, R> {
+    /// Whether the symbol is the left of no row.
+    pub fn is_token(&self, symbol: Symbol) -> bool
+        requires { symbol < S }
+        ensures { IsTrue result ↔ IsToken self.now symbol }
+    {
+        self.tokens[symbol]
+    }
+
+    /// The rows, as they were checked.
+    pub fn rows(&self) -> &[Row]
+        ensures same { result.now ≡ self.now }
+        ensures good { IsGood self.now }
+        ensures fits { FitsIn S R self.now }
+    {
+        self.rows.as_slice()
+    }
+
+    /// The row of the symbol that has the token in its FIRST.
+    fn first_row(&self, symbol: Symbol, token: Token) -> Option<usize>
+        requires symbol { symbol < S }
+        requires token { token < S }
+        ensures { PicksFirst self.now token symbol result }
+    {
+        self.firsts[token].get(symbol)
+    }
+
+    /// The row of the symbol that derives the empty list.
+    fn nullable_row(&self, symbol: Symbol) -> Option<usize>
+        requires { symbol < S }
+        ensures { PicksNullable self.now symbol result }
+    {
+        self.nullables.get(symbol)
+    }
+
+    /// The row to take for a symbol where the token, or the end, stands next.
+    pub(crate) fn predict(&self, symbol: Symbol, next: Option<Token>) -> Option<usize>
+        requires below { symbol < S }
+        requires next { ForSome next (λ t. t < S) }
+        ensures { Predicts self.now symbol next result }
+    {
+        let Some(token) = next else {
+            return self.nullable_row(symbol);
+        };
+        if let Some(row) = self.first_row(symbol, token) {
+            return Some(row);
+        }
+        self.nullable_row(symbol)
+    }
+}
