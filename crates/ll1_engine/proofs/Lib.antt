@@ -5,3 +5,4 @@ pub mod Choice
 pub mod Steps
 pub mod Stops
 pub mod Parsing
+pub mod MarkLaws

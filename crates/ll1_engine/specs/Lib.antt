@@ -4,3 +4,4 @@ pub mod First
 pub mod Conditions
 pub mod Parse
 pub mod Prediction
+pub mod Marks

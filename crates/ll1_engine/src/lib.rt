@@ -7,6 +7,7 @@ mod checked;
 mod fault;
 mod grammar;
 mod parser;
+mod sets;
 
 pub use checked::Checked;
 pub use fault::{Break, CheckFault, ParseFault, Stop, TableFault};
