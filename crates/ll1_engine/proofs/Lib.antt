@@ -6,3 +6,4 @@ pub mod Steps
 pub mod Stops
 pub mod Parsing
 pub mod MarkLaws
+pub mod PickLaws

@@ -5,3 +5,4 @@ pub mod Conditions
 pub mod Parse
 pub mod Prediction
 pub mod Marks
+pub mod Survey

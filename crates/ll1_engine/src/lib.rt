@@ -8,6 +8,7 @@ mod fault;
 mod grammar;
 mod parser;
 mod sets;
+mod survey;
 
 pub use checked::Checked;
 pub use fault::{Break, CheckFault, ParseFault, Stop, TableFault};
