@@ -7,3 +7,4 @@ pub mod Stops
 pub mod Parsing
 pub mod MarkLaws
 pub mod PickLaws
+pub mod SetLaws
