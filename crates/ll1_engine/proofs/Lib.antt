@@ -8,3 +8,4 @@ pub mod Parsing
 pub mod MarkLaws
 pub mod PickLaws
 pub mod SetLaws
+pub mod SightLaws

@@ -44,22 +44,47 @@ abbrev pub PicksMarked : List Row → List Bool → ℕ → Option ℕ → Type 
 PicksMarked g marks x None = (k : ℕ) (r : Row) → IsRow g k r → r.left ≡ x → ¬ Has marks k
 PicksMarked g marks x (Some k) = (r : Row) × IsRow g k r × (r.left ≡ x) × Has marks k
 
--- what is found out of each token
-pub record IsSurvey (size : ℕ) (g : List Row) (tokens alive empty : List Bool) (begun follows : List (List Bool)) (firsts : List (List (Option ℕ))) (nullables : List (Option ℕ)) : Type 0 where
+-- what is found out for one token
+pub record IsSight (size : ℕ) (g : List Row) (t : ℕ) (begun follow : List Bool) (first : List (Option ℕ)) : Type 0 where
+  pub begun_size : length begun ≡ length g
+  pub begun_marks : MarksBegunRows g t begun
+  pub follow_size : length follow ≡ size
+  pub follow_marks : MarksFollow g t follow
+  pub first_size : length first ≡ size
+  pub first_rows : (x : ℕ) → x < size → PicksFirst g t x (slice_index_or first x None)
+
+-- and for each token below count
+pub record AreSights (count size : ℕ) (g : List Row) (begun follows : List (List Bool)) (firsts : List (List (Option ℕ))) : Type 0 where
+  pub begun_count : length begun ≡ count
+  pub follow_count : length follows ≡ count
+  pub first_count : length firsts ≡ count
+  pub each : (t : ℕ) → t < count → IsSight size g t (slice_index_or begun t []) (slice_index_or follows t []) (slice_index_or firsts t [])
+
+-- and for the whole table
+pub record IsSurvey (size : ℕ) (g : List Row) (tokens alive empty : List Bool) (nullables : List (Option ℕ)) (begun follows : List (List Bool)) (firsts : List (List (Option ℕ))) : Type 0 where
   pub token_count : length tokens ≡ size
   pub token_marks : MarksTokens size g tokens
   pub alive_count : length alive ≡ size
   pub alive_marks : MarksAlive size g alive
   pub empty_count : length empty ≡ length g
   pub empty_marks : MarksEmptyRows g empty
-  pub begun_count : length begun ≡ size
-  pub begun_size : (t : ℕ) → t < size → length (slice_index_or begun t []) ≡ length g
-  pub begun_marks : (t : ℕ) → t < size → MarksBegunRows g t (slice_index_or begun t [])
-  pub follow_count : length follows ≡ size
-  pub follow_size : (t : ℕ) → t < size → length (slice_index_or follows t []) ≡ size
-  pub follow_marks : (t : ℕ) → t < size → MarksFollow g t (slice_index_or follows t [])
-  pub first_count : length firsts ≡ size
-  pub first_size : (t : ℕ) → t < size → length (slice_index_or firsts t []) ≡ size
-  pub first_rows : (t x : ℕ) → t < size → x < size → PicksFirst g t x (slice_index_or (slice_index_or firsts t []) x None)
   pub nullable_count : length nullables ≡ size
   pub nullable_rows : (x : ℕ) → x < size → PicksNullable g x (slice_index_or nullables x None)
+  pub sights : AreSights size size g begun follows firsts
+
+-- another row of the symbol of row k is marked
+abbrev pub OtherMarked : List Row → ℕ → Row → List Bool → Type 0
+OtherMarked g k r marks = (j : ℕ) × (s : Row) × IsOther g k r j s × Has marks j
+
+-- the symbol of row k has one other row, and that is the empty row with rank 0
+pub record HasPlainTwin (g : List Row) (k : ℕ) (r : Row) : Type 0 where
+  pub j : ℕ
+  pub s : Row
+  pub other : IsOther g k r j s
+  pub empty : s.right ≡ []
+  pub plain : s.rank ≡ 0
+  pub only : (i : ℕ) (q : Row) → IsOther g k r i q → i ≡ j
+
+-- a token is in FIRST of row k and in FOLLOW of its symbol
+abbrev pub BeginsAndFollows : List Row → Row → Type 0
+BeginsAndFollows g r = (t : ℕ) × BeginsWith g r.right t × InFollow g r.left (Some t)

@@ -4,9 +4,11 @@ ghost use Rattle.std.specs.Prelude.{◌≡◌, ℕ, ◌<◌, ◌↔◌, ◌++◌
 ghost use Rattle.std.specs.Option.{ForSome};
 ghost use Rattle.ll1_engine.specs.Table.{IsToken, FitsIn};
 ghost use Rattle.ll1_engine.specs.Conditions.{IsGood};
+ghost use Rattle.ll1_engine.specs.Survey.{IsSurvey};
 ghost use Rattle.ll1_engine.specs.Prediction.{PicksFirst, PicksNullable, Predicts};
 
 use crate::grammar::{Row, Rows, Symbol, Token};
+use crate::survey::Survey;
 
 use std::alloc::{AllocError, Global};
 use std::marker::Model;
@@ -26,6 +28,12 @@ impl Model for Choices {
 }
 
 impl Choices {
+    pub(crate) fn new(rows: Vec<Option<usize>>) -> Self
+        ensures { result ≡ rows.items }
+    {
+        Choices { rows }
+    }
+
     fn get(&self, symbol: Symbol) -> Option<usize>
         requires { symbol < length self.now }
         ensures { result ≡ slice_index_or self.now symbol None }
@@ -56,6 +64,21 @@ impl<const S: usize, const R: usize> Model for Checked<S, R> {
 }
 
 impl<const S: usize, const R: usize> Checked<S, R> {
+    /// A good table, with what was found out of it.
+    pub(crate) fn new(alloc: Global, rows: &[Row], seen: Survey) -> Result<Self, AllocError>
+        requires fits { FitsIn S R rows.now }
+        requires good { IsGood rows.now }
+        requires seen { IsSurvey S rows.now seen.tokens.items seen.alive.items seen.empty.items seen.nullables seen.sights.begun.items seen.sights.follows.items seen.sights.firsts.items }
+        ensures { IfOk result (λ checked. checked ≡ rows.now) }
+    {
+        Ok(Checked {
+            rows: Rows::copied(alloc, rows)?,
+            tokens: seen.tokens,
+            firsts: seen.sights.firsts,
+            nullables: seen.nullables,
+        })
+    }
+
     /// Whether the symbol is the left of no row.
     pub fn is_token(&self, symbol: Symbol) -> bool
         requires { symbol < S }

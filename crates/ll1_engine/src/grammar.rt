@@ -1,7 +1,9 @@
 //! The grammar as data: symbols, rows and the table of all rows.
 
-ghost use Rattle.std.specs.Prelude.{◌≡◌, ℕ, ◌<◌, ◌↔◌, ◌++◌, [], ◌∷◌, List, length, IsSome, IfSome, IfOk, OnOk, OnErr};
-ghost use Rattle.ll1_engine.specs.Table.{FitsIn};
+ghost use Rattle.std.specs.Prelude.{◌≡◌, ℕ, ◌<◌, ◌↔◌, ◌++◌, [], ◌∷◌, List, length, IsSome, IfSome, IfOk, OnOk, OnErr, IsTrue};
+ghost use Rattle.std.specs.List.{AllByRecursion};
+ghost use Rattle.ll1_engine.specs.declared.grammar.Row.{Row};
+ghost use Rattle.ll1_engine.specs.Table.{IsRow, RowIsBelow, FitsIn};
 
 use std::alloc::{AllocError, Global};
 use std::marker::Model;
@@ -82,6 +84,22 @@ impl Rows {
         }
     }
 
+    /// A copy of the rows.
+    pub(crate) fn copied(alloc: Global, rows: &[Row]) -> Result<Self, AllocError>
+        ensures { IfOk result (λ r. r ≡ rows.now) }
+    {
+        let mut items = Vec::new(alloc);
+        for row in rows {
+            let right = Symbols::from_slice(alloc, row.right.as_slice())?;
+            items.push(Row {
+                left: row.left,
+                right,
+                rank: row.rank,
+            })?;
+        }
+        Ok(Rows { items })
+    }
+
     pub fn push(&mut self, row: Row) -> Result<(), AllocError>
         ensures ok { OnOk result (self.new ≡ self.old ++ row ∷ []) }
         ensures err { OnErr result (self.new ≡ self.old) }
@@ -95,6 +113,40 @@ impl Rows {
     {
         self.items.as_slice()
     }
+}
+
+fn all_below(n: usize, symbols: &[Symbol]) -> bool
+    ensures { IsTrue result ↔ AllByRecursion (λ y. y < n) symbols.now }
+{
+    for symbol in symbols {
+        if *symbol >= n {
+            return false;
+        }
+    }
+    true
+}
+
+fn row_is_below(n: usize, row: &Row) -> bool
+    ensures { IsTrue result ↔ RowIsBelow n row.now }
+{
+    row.left < n && all_below(n, row.right.as_slice())
+}
+
+fn rows_are_below(n: usize, rows: &[Row]) -> bool
+    ensures { IsTrue result ↔ ((k : ℕ) (r : Row) → IsRow rows.now k r → RowIsBelow n r) }
+{
+    for row in rows {
+        if !row_is_below(n, row) {
+            return false;
+        }
+    }
+    true
+}
+
+fn fits(symbols: usize, count: usize, rows: &[Row]) -> bool
+    ensures { IsTrue result ↔ FitsIn symbols count rows.now }
+{
+    symbols > 0 && rows.len() == count && rows_are_below(symbols, rows)
 }
 
 /// A grammar of `S` symbols and `R` rows.
@@ -116,6 +168,17 @@ impl<const S: usize, const R: usize> Model for Grammar<S, R> {
 }
 
 impl<const S: usize, const R: usize> Grammar<S, R> {
+    /// The rows as a grammar, where there are `R` of them and each symbol is below `S`.
+    pub fn new(rows: Rows) -> Option<Self>
+        ensures value { IfSome result (λ g. g ≡ rows) }
+        ensures fits { IsSome result ↔ FitsIn S R rows }
+    {
+        if fits(S, R, rows.as_slice()) {
+            return Some(Grammar { rows });
+        }
+        None
+    }
+
     pub fn rows(&self) -> &[Row]
         ensures same { result.now ≡ self.now }
         ensures fits { FitsIn S R self.now }

@@ -3,6 +3,7 @@
 //! past which no list with a tree can go on.
 #![tactic(auto)]
 
+mod check;
 mod checked;
 mod fault;
 mod grammar;
@@ -10,6 +11,7 @@ mod parser;
 mod sets;
 mod survey;
 
+pub use check::check_table;
 pub use checked::Checked;
 pub use fault::{Break, CheckFault, ParseFault, Stop, TableFault};
 pub use grammar::{Grammar, Row, Rows, Symbol, Symbols, Token};

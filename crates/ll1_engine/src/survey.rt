@@ -5,13 +5,64 @@ ghost use Rattle.std.specs.Prelude.{◌≡◌, ℕ, ◌<◌, ◌↔◌, List, Bo
 ghost use Rattle.ll1_engine.specs.declared.grammar.Row.{Row};
 ghost use Rattle.ll1_engine.specs.Table.{IsRow, IsToken};
 ghost use Rattle.ll1_engine.specs.Marks.{marked, Has, all_in, begins_in};
-ghost use Rattle.ll1_engine.specs.Survey.{AreBelow, MarksTokens, MarksAlive, MarksNullable, MarksFirst, MarksFollow, PicksMarked};
+ghost use Rattle.ll1_engine.specs.Survey.{AreBelow, MarksTokens, MarksAlive, MarksNullable, MarksFirst, MarksFollow, PicksMarked, IsSight, AreSights, IsSurvey};
 
 use crate::checked::Choices;
 use crate::grammar::{Row, Symbol, Token};
 use crate::sets::{all_marked, begins, derivers, spread_first, spread_follow};
 
 use std::alloc::{AllocError, Global};
+use std::marker::Model;
+
+/// A mark for each symbol, or for each row.
+#[derive(Debug, Drop)]
+pub(crate) struct Marks {
+    items: Vec<bool>,
+}
+
+impl Model for Marks {
+    ghost use Rattle.std.specs.Prelude.{List, Bool};
+
+    ghost Value = { List Bool };
+
+    ghost view = { λ m. m.items.items };
+}
+
+impl Marks {
+    pub(crate) fn as_slice(&self) -> &[bool]
+        ensures { result.now ≡ self.now }
+    {
+        self.items.as_slice()
+    }
+}
+
+/// What is found out for one token: the rows that have it in their FIRST, the symbols that have it in their
+/// FOLLOW, and for each symbol its row that has it in its FIRST.
+#[derive(Debug, Drop)]
+struct Sight {
+    begun: Marks,
+    follow: Marks,
+    first: Choices,
+}
+
+/// The same for each token, in the order of the symbols.
+#[derive(Debug, Drop)]
+pub(crate) struct Sights {
+    pub(crate) begun: Vec<Marks>,
+    pub(crate) follows: Vec<Marks>,
+    pub(crate) firsts: Vec<Choices>,
+}
+
+/// What is found out of a table: its tokens, the symbols that derive something, the rows that derive the empty
+/// list, for each symbol such a row, and what is found out for each token.
+#[derive(Debug, Drop)]
+pub(crate) struct Survey {
+    pub(crate) tokens: Vec<bool>,
+    pub(crate) alive: Vec<bool>,
+    pub(crate) empty: Vec<bool>,
+    pub(crate) nullables: Choices,
+    pub(crate) sights: Sights,
+}
 
 /// The symbols that are the left of no row.
 fn token_marks(alloc: Global, size: usize, rows: &[Row]) -> Result<Vec<bool>, AllocError>
@@ -119,4 +170,68 @@ fn picks(alloc: Global, size: usize, rows: &[Row], marks: &[bool]) -> Result<Vec
         }
     }
     Ok(choices)
+}
+
+/// What is found out for one token.
+fn see_token(alloc: Global, rows: &[Row], tokens: &[bool], nullable: &[bool], token: Token) -> Result<Sight, AllocError>
+    requires below { AreBelow (length tokens.now) rows.now }
+    requires sizes { length nullable.now ≡ length tokens.now }
+    requires tokens { MarksTokens (length tokens.now) rows.now tokens.now }
+    requires nullable { MarksNullable rows.now nullable.now }
+    requires token { token < length tokens.now }
+    ensures { IfOk result (λ s. IsSight (length tokens.now) rows.now token s.begun s.follow s.first) }
+{
+    let first = first_marks(alloc, rows, tokens, nullable, token)?;
+    let follow = follow_marks(alloc, rows, first.as_slice(), nullable)?;
+    let begun = begun_rows(alloc, rows, first.as_slice(), nullable)?;
+    let choices = picks(alloc, tokens.len(), rows, begun.as_slice())?;
+    Ok(Sight {
+        begun: Marks { items: begun },
+        follow: Marks { items: follow },
+        first: Choices::new(choices),
+    })
+}
+
+/// What is found out for each token.
+fn see_tokens(alloc: Global, rows: &[Row], tokens: &[bool], nullable: &[bool]) -> Result<Sights, AllocError>
+    requires below { AreBelow (length tokens.now) rows.now }
+    requires sizes { length nullable.now ≡ length tokens.now }
+    requires tokens { MarksTokens (length tokens.now) rows.now tokens.now }
+    requires nullable { MarksNullable rows.now nullable.now }
+    ensures { IfOk result (λ s. AreSights (length tokens.now) (length tokens.now) rows.now s.begun.items s.follows.items s.firsts.items) }
+{
+    let mut begun = Vec::new(alloc);
+    let mut follows = Vec::new(alloc);
+    let mut firsts = Vec::new(alloc);
+    for token in 0..tokens.len() {
+        let seen = see_token(alloc, rows, tokens, nullable, token)?;
+        begun.push(seen.begun)?;
+        follows.push(seen.follow)?;
+        firsts.push(seen.first)?;
+    }
+    Ok(Sights {
+        begun,
+        follows,
+        firsts,
+    })
+}
+
+/// What is found out of a table of `size` symbols.
+pub(crate) fn survey_of(alloc: Global, size: usize, rows: &[Row]) -> Result<Survey, AllocError>
+    requires { AreBelow size rows.now }
+    ensures { IfOk result (λ s. IsSurvey size rows.now s.tokens.items s.alive.items s.empty.items s.nullables s.sights.begun.items s.sights.follows.items s.sights.firsts.items) }
+{
+    let tokens = token_marks(alloc, size, rows)?;
+    let alive = alive_marks(alloc, rows, tokens.as_slice())?;
+    let nullable = nullable_marks(alloc, size, rows)?;
+    let empty = empty_rows(alloc, rows, nullable.as_slice())?;
+    let choices = picks(alloc, size, rows, empty.as_slice())?;
+    let sights = see_tokens(alloc, rows, tokens.as_slice(), nullable.as_slice())?;
+    Ok(Survey {
+        tokens,
+        alive,
+        empty,
+        nullables: Choices::new(choices),
+        sights,
+    })
 }
