@@ -9,3 +9,4 @@ pub mod MarkLaws
 pub mod PickLaws
 pub mod SetLaws
 pub mod SightLaws
+pub mod CheckLaws

@@ -1,6 +1,6 @@
 //! The judgement of a table: the five conditions of a row, in their order, and the first row that breaks one.
 
-ghost use Rattle.std.specs.Prelude.{◌≡◌, ◌≢◌, ℕ, ◌<◌, ◌≤◌, ◌↔◌, List, Bool, length, slice_index, slice_index_or, Some, None, Err, IsTrue, IfOk, OnOk, MatchOption};
+ghost use Rattle.std.specs.Prelude.{◌≡◌, ◌≢◌, ℕ, ◌<◌, ◌≤◌, ◌↔◌, List, Bool, length, slice_index, slice_index_or, Some, None, Err, IsTrue, IfOk, IfSome, OnOk, MatchOption, MatchBool, if◌then◌else◌, ◌==◌};
 ghost use Rattle.ll1_engine.specs.declared.grammar.Row.{Row};
 ghost use Rattle.ll1_engine.specs.declared.fault.Break.{Break};
 ghost use Rattle.ll1_engine.specs.declared.fault.TableFault.{TableFault};
@@ -15,6 +15,15 @@ use crate::survey::{Marks, Sights, Survey, survey_of};
 
 use std::alloc::Global;
 
+/// Whether row `j` is another row of the symbol of row `k`.
+fn is_other(rows: &[Row], k: usize, j: usize) -> bool
+    requires row { k < length rows.now }
+    requires other { j < length rows.now }
+    ensures { (r s : Row) → IsRow rows.now k r → IsRow rows.now j s → IsTrue result ↔ IsOther rows.now k r j s }
+{
+    j != k && rows[j].left == rows[k].left
+}
+
 /// Whether another row of the symbol of row `k` is marked.
 fn other_marked(rows: &[Row], k: usize, marks: &[bool]) -> bool
     requires row { k < length rows.now }
@@ -22,7 +31,10 @@ fn other_marked(rows: &[Row], k: usize, marks: &[bool]) -> bool
     ensures { (r : Row) → IsRow rows.now k r → IsTrue result ↔ OtherMarked rows.now k r marks.now }
 {
     for j in 0..rows.len() {
-        if j != k && marks[j] && rows[j].left == rows[k].left {
+        if !marks[j] {
+            continue;
+        }
+        if is_other(rows, k, j) {
             return true;
         }
     }
@@ -32,10 +44,11 @@ fn other_marked(rows: &[Row], k: usize, marks: &[bool]) -> bool
 /// Another row of the symbol of row `k`.
 fn first_other(rows: &[Row], k: usize) -> Option<usize>
     requires { k < length rows.now }
-    ensures { (r : Row) → IsRow rows.now k r → MatchOption result ((j : ℕ) (s : Row) → ¬ IsOther rows.now k r j s) (λ j. (s : Row) × IsOther rows.now k r j s) }
+    ensures within { IfSome result (λ j. j < length rows.now) }
+    ensures other { (r : Row) → IsRow rows.now k r → MatchOption result ((j : ℕ) (s : Row) → ¬ IsOther rows.now k r j s) (λ j. (s : Row) × IsOther rows.now k r j s) }
 {
     for j in 0..rows.len() {
-        if j != k && rows[j].left == rows[k].left {
+        if is_other(rows, k, j) {
             return Some(j);
         }
     }
@@ -48,7 +61,10 @@ fn is_only_other(rows: &[Row], k: usize, j: usize) -> bool
     ensures { (r : Row) → IsRow rows.now k r → IsTrue result ↔ ((i : ℕ) (q : Row) → IsOther rows.now k r i q → i ≡ j) }
 {
     for i in 0..rows.len() {
-        if i != k && i != j && rows[i].left == rows[k].left {
+        if i == j {
+            continue;
+        }
+        if is_other(rows, k, i) {
             return false;
         }
     }
@@ -63,7 +79,14 @@ fn has_plain_twin(rows: &[Row], k: usize) -> bool
     let Some(j) = first_other(rows, k) else {
         return false;
     };
-    rows[j].rank == 0 && rows[j].right.as_slice().is_empty() && is_only_other(rows, k, j)
+    let twin = &rows[j];
+    if twin.rank != 0 {
+        return false;
+    }
+    if !twin.right.as_slice().is_empty() {
+        return false;
+    }
+    is_only_other(rows, k, j)
 }
 
 /// Whether no symbol from a place on is the token.
@@ -78,13 +101,19 @@ fn lacks_from(symbols: &[Symbol], token: Token, from: usize) -> bool
     true
 }
 
+/// How many places of row `j` may hold the first token of row `k`.
+fn places_free(j: usize, k: usize) -> usize
+    ensures { result ≡ (if j == k then 1 else 0) }
+{
+    if j == k { 1 } else { 0 }
+}
+
 /// Whether the token stands nowhere in the table but, it may be, at the first place of row `k`.
 fn stands_only_first_in(rows: &[Row], token: Token, k: usize) -> bool
     ensures { IsTrue result ↔ StandsOnlyFirstIn rows.now token k }
 {
     for j in 0..rows.len() {
-        let from = if j == k { 1 } else { 0 };
-        if !lacks_from(rows[j].right.as_slice(), token, from) {
+        if !lacks_from(rows[j].right.as_slice(), token, places_free(j, k)) {
             return false;
         }
     }
@@ -103,7 +132,13 @@ fn may_rank(rows: &[Row], tokens: &[bool], k: usize) -> bool
         return false;
     }
     let token = right[0];
-    tokens[token] && stands_only_first_in(rows, token, k) && has_plain_twin(rows, k)
+    if !tokens[token] {
+        return false;
+    }
+    if !stands_only_first_in(rows, token, k) {
+        return false;
+    }
+    has_plain_twin(rows, k)
 }
 
 /// Whether a token is in FIRST of row `k` and of another row of its symbol.
@@ -115,7 +150,10 @@ fn shares_first(size: usize, rows: &[Row], sights: &Sights, k: usize) -> bool
 {
     for token in 0..size {
         let begun = sights.begun[token].as_slice();
-        if begun[k] && other_marked(rows, k, begun) {
+        if !begun[k] {
+            continue;
+        }
+        if other_marked(rows, k, begun) {
             return true;
         }
     }
@@ -132,11 +170,77 @@ fn begins_and_follows(size: usize, rows: &[Row], sights: &Sights, k: usize) -> b
     for token in 0..size {
         let begun = sights.begun[token].as_slice();
         let follow = sights.follows[token].as_slice();
-        if begun[k] && follow[rows[k].left] {
+        if !begun[k] {
+            continue;
+        }
+        if follow[rows[k].left] {
             return true;
         }
     }
     false
+}
+
+/// Whether the left symbol of row `k` derives no list of tokens.
+fn breaks_barren(size: usize, rows: &[Row], seen: &Survey, k: usize) -> bool
+    requires below { AreBelow size rows.now }
+    requires seen { IsSurvey size rows.now seen.now.tokens.items seen.now.alive.items seen.now.empty.items seen.now.nullables seen.now.sights.begun.items seen.now.sights.follows.items seen.now.sights.firsts.items }
+    requires row { k < length rows.now }
+    ensures { (r : Row) → IsRow rows.now k r → MatchBool result (Breaks rows.now k r Break.Barren) (Meets rows.now k r Break.Barren) }
+{
+    !seen.alive[rows[k].left]
+}
+
+/// Whether row `k` has a rank above 0 that it may not have.
+fn breaks_rank(size: usize, rows: &[Row], seen: &Survey, k: usize) -> bool
+    requires below { AreBelow size rows.now }
+    requires seen { IsSurvey size rows.now seen.now.tokens.items seen.now.alive.items seen.now.empty.items seen.now.nullables seen.now.sights.begun.items seen.now.sights.follows.items seen.now.sights.firsts.items }
+    requires row { k < length rows.now }
+    ensures { (r : Row) → IsRow rows.now k r → MatchBool result (Breaks rows.now k r Break.Rank) (Meets rows.now k r Break.Rank) }
+{
+    if rows[k].rank == 0 {
+        return false;
+    }
+    !may_rank(rows, seen.tokens.as_slice(), k)
+}
+
+/// Whether row `k` and another row of its symbol derive the empty list.
+fn breaks_nullable(size: usize, rows: &[Row], seen: &Survey, k: usize) -> bool
+    requires below { AreBelow size rows.now }
+    requires seen { IsSurvey size rows.now seen.now.tokens.items seen.now.alive.items seen.now.empty.items seen.now.nullables seen.now.sights.begun.items seen.now.sights.follows.items seen.now.sights.firsts.items }
+    requires row { k < length rows.now }
+    ensures { (r : Row) → IsRow rows.now k r → MatchBool result (Breaks rows.now k r Break.Nullable) (Meets rows.now k r Break.Nullable) }
+{
+    if !seen.empty[k] {
+        return false;
+    }
+    other_marked(rows, k, seen.empty.as_slice())
+}
+
+/// Whether a token is in FIRST of row `k` and of another row of its symbol.
+fn breaks_first(size: usize, rows: &[Row], seen: &Survey, k: usize) -> bool
+    requires below { AreBelow size rows.now }
+    requires seen { IsSurvey size rows.now seen.now.tokens.items seen.now.alive.items seen.now.empty.items seen.now.nullables seen.now.sights.begun.items seen.now.sights.follows.items seen.now.sights.firsts.items }
+    requires row { k < length rows.now }
+    ensures { (r : Row) → IsRow rows.now k r → MatchBool result (Breaks rows.now k r Break.First) (Meets rows.now k r Break.First) }
+{
+    shares_first(size, rows, &seen.sights, k)
+}
+
+/// Whether row `k` has rank 0, another row of its symbol derives the empty list, and a token is in FIRST of row `k`
+/// and in FOLLOW of its symbol.
+fn breaks_follow(size: usize, rows: &[Row], seen: &Survey, k: usize) -> bool
+    requires below { AreBelow size rows.now }
+    requires seen { IsSurvey size rows.now seen.now.tokens.items seen.now.alive.items seen.now.empty.items seen.now.nullables seen.now.sights.begun.items seen.now.sights.follows.items seen.now.sights.firsts.items }
+    requires row { k < length rows.now }
+    ensures { (r : Row) → IsRow rows.now k r → MatchBool result (Breaks rows.now k r Break.Follow) (Meets rows.now k r Break.Follow) }
+{
+    if rows[k].rank != 0 {
+        return false;
+    }
+    if !other_marked(rows, k, seen.empty.as_slice()) {
+        return false;
+    }
+    begins_and_follows(size, rows, &seen.sights, k)
 }
 
 /// The first condition that row `k` breaks.
@@ -146,21 +250,19 @@ fn break_of(size: usize, rows: &[Row], seen: &Survey, k: usize) -> Option<Break>
     requires row { k < length rows.now }
     ensures { (r : Row) → IsRow rows.now k r → MatchOption result ((b : Break) → Meets rows.now k r b) (λ b. Breaks rows.now k r b × ((a : Break) → place_of a < place_of b → Meets rows.now k r a)) }
 {
-    let row = &rows[k];
-    if !seen.alive[row.left] {
+    if breaks_barren(size, rows, seen, k) {
         return Some(Break::Barren);
     }
-    if row.rank > 0 && !may_rank(rows, seen.tokens.as_slice(), k) {
+    if breaks_rank(size, rows, seen, k) {
         return Some(Break::Rank);
     }
-    let beside_empty = other_marked(rows, k, seen.empty.as_slice());
-    if seen.empty[k] && beside_empty {
+    if breaks_nullable(size, rows, seen, k) {
         return Some(Break::Nullable);
     }
-    if shares_first(size, rows, &seen.sights, k) {
+    if breaks_first(size, rows, seen, k) {
         return Some(Break::First);
     }
-    if row.rank == 0 && beside_empty && begins_and_follows(size, rows, &seen.sights, k) {
+    if breaks_follow(size, rows, seen, k) {
         return Some(Break::Follow);
     }
     None

@@ -8,7 +8,7 @@ ghost use Rattle.ll1_engine.specs.Survey.{IsSurvey};
 ghost use Rattle.ll1_engine.specs.Prediction.{PicksFirst, PicksNullable, Predicts};
 
 use crate::grammar::{Row, Rows, Symbol, Token};
-use crate::survey::Survey;
+use crate::survey::{Sights, Survey};
 
 use std::alloc::{AllocError, Global};
 use std::marker::Model;
@@ -71,11 +71,24 @@ impl<const S: usize, const R: usize> Checked<S, R> {
         requires seen { IsSurvey S rows.now seen.tokens.items seen.alive.items seen.empty.items seen.nullables seen.sights.begun.items seen.sights.follows.items seen.sights.firsts.items }
         ensures { IfOk result (λ checked. checked ≡ rows.now) }
     {
+        let rows = Rows::copied(alloc, rows)?;
+        let Survey {
+            tokens,
+            alive: _,
+            empty: _,
+            nullables,
+            sights,
+        } = seen;
+        let Sights {
+            begun: _,
+            follows: _,
+            firsts,
+        } = sights;
         Ok(Checked {
-            rows: Rows::copied(alloc, rows)?,
-            tokens: seen.tokens,
-            firsts: seen.sights.firsts,
-            nullables: seen.nullables,
+            rows,
+            tokens,
+            firsts,
+            nullables,
         })
     }
 
