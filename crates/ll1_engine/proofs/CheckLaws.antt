@@ -83,3 +83,68 @@ shares_from g k r t marks h m here o =
 
 pub shares_marked : (g : List Row) (k : ℕ) (r : Row) (marks : List Bool) (s : SharesFirst g k r) → MarksBegunRows g s.token marks → OtherMarked g k r marks
 shares_marked g k r marks s m = (s.j, s.s, s.other, (m s.j s.s s.other.row).1 s.there)
+
+-- a row and another one that derive the empty list
+pub nullable_unmarked : (g : List Row) (k : ℕ) (r : Row) (marks : List Bool) → MarksEmptyRows g marks → IsRow g k r → get_or marks k false ≡ false → ¬ BothNullable g k r
+nullable_unmarked g k r marks m h e b = false≢true (sym e ∙ (m k r h).1 b.here)
+
+pub nullable_match : (g : List Row) (k : ℕ) (r : Row) (marks : List Bool) (b : Bool) → MarksEmptyRows g marks → IsRow g k r → Has marks k → (IsTrue b ↔ OtherMarked g k r marks) → Rattle.std.specs.Prelude.MatchBool b (BothNullable g k r) (¬ BothNullable g k r)
+nullable_match g k r marks true m h here o = (let p = o.0 refl in record { j = p.0; s = p.1; other = p.2; here = (m k r h).0 here; there = (m p.0 p.1 p.2.row).0 p.3 })
+nullable_match g k r marks false m h here o = λ b. false≢true (o.1 (b.j, b.s, b.other, (m b.j b.s b.other.row).1 b.there))
+
+-- a row beside an empty one, with a token in its FIRST and in FOLLOW of its symbol
+pub follow_unmarked : (g : List Row) (k : ℕ) (r : Row) (marks : List Bool) (b : Bool) → MarksEmptyRows g marks → b ≡ false → (IsTrue b ↔ OtherMarked g k r marks) → ¬ MeetsFollow g k r
+follow_unmarked g k r marks b m e o f = false≢true (sym e ∙ o.1 (f.j, f.s, f.other, (m f.j f.s f.other.row).1 f.empty))
+
+pub follow_match : (g : List Row) (k : ℕ) (r : Row) (marks : List Bool) (b : Bool) → MarksEmptyRows g marks → r.rank ≡ 0 → OtherMarked g k r marks → (IsTrue b ↔ BeginsAndFollows g r) → Rattle.std.specs.Prelude.MatchBool b (MeetsFollow g k r) (¬ MeetsFollow g k r)
+follow_match g k r marks true m plain o h = (let p = h.0 refl in record { plain = plain; token = p.0; j = o.0; s = o.1; other = o.2; empty = (m o.0 o.1 o.2.row).0 o.3; here = p.1; behind = p.2 })
+follow_match g k r marks false m plain o h = λ f. false≢true (h.1 (f.token, f.here, f.behind))
+
+-- a loop's step over the tokens
+pub token_step : (P : ℕ → Type 0) (n t : ℕ) → ((u : ℕ) → u < n → P u) → P n → t < n + 1 → P t
+token_step P n t before here lt =
+    elim (cases_lt t n) [
+      inl less ↦ before t less
+    | inr more ↦ (let same : t ≡ n = omega arith in subst P (sym same) here)
+    ]
+
+pub not_begun : (g : List Row) (k : ℕ) (r : Row) (t : ℕ) (marks read : List Bool) → MarksBegunRows g t marks → IsRow g k r → read ≡ marks → get_or read k false ≡ false → ¬ BeginsWith g r.right t
+not_begun g k r t marks read m h same e b = false≢true (sym e ∙ (ap (λ (z : List Bool). get_or z k false) same ∙ (m k r h).1 b))
+
+pub begun_here : (g : List Row) (k : ℕ) (r : Row) (t : ℕ) (marks read : List Bool) → MarksBegunRows g t marks → IsRow g k r → read ≡ marks → get_or read k false ≡ true → BeginsWith g r.right t
+begun_here g k r t marks read m h same e = (m k r h).0 (ap (λ (z : List Bool). get_or z k false) (sym same) ∙ e)
+
+-- a row that may have a rank, from its parts
+pub may_rank_match : (g : List Row) (k : ℕ) (r : Row) (token : ℕ) (rest : List ℕ) (b : Bool) → r.right ≡ token ∷ rest → IsToken g token → StandsOnlyFirstIn g token k → (IsTrue b ↔ HasPlainTwin g k r) → IsTrue b ↔ MayRank g k r
+may_rank_match g k r token rest b e terminal once twin =
+    (λ h. let t = twin.0 h in record { token = token; rest = rest; begins = e; terminal = terminal; once = once; j = t.j; s = t.s; other = t.other; empty = t.empty; plain = t.plain; only = t.only },
+     λ m. twin.1 (record { j = m.j; s = m.s; other = m.other; empty = m.empty; plain = m.plain; only = m.only }))
+
+-- the first symbol of a list that is not empty, and the rest
+pub first_of_right : (xs : List ℕ) → eqb (length xs) 0 ≡ false → xs ≡ get_or xs 0 0 ∷ drop 1 xs
+first_of_right [] e = absurd (cc)
+first_of_right (y ∷ xs) e = refl
+
+pub head_below : (n : ℕ) (xs : List ℕ) (x : ℕ) (ys : List ℕ) → xs ≡ x ∷ ys → AllByRecursion (λ y. y < n) xs → x < n
+head_below n xs x ys e h = (subst (AllByRecursion (λ y. y < n)) e h).0
+
+-- the conditions before one
+pub before_rank : (P : Break → Type 0) → P Barren → (a : Break) → place_of a < 1 → P a
+before_rank P p Barren lt = p
+before_rank P p Rank lt = absurd (omega arith)
+before_rank P p NullableTwice lt = absurd (omega arith)
+before_rank P p First lt = absurd (omega arith)
+before_rank P p Follow lt = absurd (omega arith)
+
+pub before_follow : (P : Break → Type 0) → P Barren → P Rank → P NullableTwice → P First → (a : Break) → place_of a < 4 → P a
+before_follow P p q u v Barren lt = p
+before_follow P p q u v Rank lt = q
+before_follow P p q u v NullableTwice lt = u
+before_follow P p q u v First lt = v
+before_follow P p q u v Follow lt = absurd (omega arith)
+
+-- the row at a place within the table
+pub row_at : (g : List Row) (k : ℕ) → k < length g → (r : Row) × IsRow g k r
+row_at [] k lt = absurd (omega arith)
+row_at (r ∷ g) zero lt = (r, refl)
+row_at (s ∷ g) (suc k) lt = row_at g k (omega arith)
