@@ -1,14 +1,11 @@
 -- What derivations begin with is in FIRST; which lists derive the empty list; what follows the symbols of a row.
-use Rattle.std.proofs.Common.{◌≡◌, ◌≢◌, ℕ, Bool, true, false, ◌||◌, eqb, List, [], ◌∷◌, ◌++◌, Option, None, Some, refl, sym, ap, ◌∙◌, subst, inl, inr, ◌⊎◌, append_assoc, zero, suc}
-use Rattle.std.proofs.lemmas.List.{append-nil}
+use Rattle.std.proofs.Common.{◌≡◌, ℕ, Bool, true, false, ◌||◌, eqb, List, [], ◌∷◌, ◌++◌, Some, refl, sym, ap, ◌∙◌, subst, inl, inr, ◌⊎◌, append_assoc, zero, suc}
 use Rattle.std.proofs.lemmas.Bool.{eqb-true, eq-eqb, or_cases, or_left, or_right}
-use Rattle.std.specs.Prelude.{IsTrue, slice_get}
-use Rattle.std.specs.List.{AllByRecursion}
 use Rattle.ll1_engine.specs.declared.grammar.Row.{Row}
 use Rattle.ll1_engine.specs.Table.{IsRow, IsToken}
-use Rattle.ll1_engine.specs.Trees.{Trees, End, Leaf, Node, roots, leaves, AreTrees, Derives, Nullable}
-use Rattle.ll1_engine.specs.First.{InFirst, IsFirstSet, BeginsWith, IsFollowSet, InFollow}
-use Rattle.ll1_engine.proofs.Beside.{beside, roots-beside, leaves-beside, AreTrees-beside, Parts, parts, no_parts, same_row}
+use Rattle.ll1_engine.specs.Trees.{Trees, End, Leaf, Node, roots, leaves, AreTrees, Nullable}
+use Rattle.ll1_engine.specs.First.{InFirst, BeginsWith, InFollow}
+use Rattle.ll1_engine.proofs.Beside.{beside, roots-beside, leaves-beside, AreTrees-beside, parts, no_parts}
 
 -- trees without a leaf show that their roots derive the empty list
 pub nullable_trees : (g : List Row) (f : Trees) → AreTrees g f → leaves f ≡ [] → Nullable g (roots f)

@@ -1,9 +1,8 @@
 -- Lists of trees side by side: what they derive, how they split, and which the ranks allow.
-use Rattle.std.proofs.Common.{◌≡◌, ℕ, List, [], ◌∷◌, ◌++◌, Option, None, Some, refl, sym, ap, ◌∙◌, subst, append_assoc, arith}
-use Rattle.std.proofs.lemmas.List.{append-nil}
+use Rattle.std.proofs.Common.{◌≡◌, ℕ, List, [], ◌∷◌, ◌++◌, Option, refl, sym, ap, ◌∙◌, subst, append_assoc}
 use Rattle.std.proofs.lemmas.Option.{same_Some}
 use Rattle.ll1_engine.specs.declared.grammar.Row.{Row}
-use Rattle.ll1_engine.specs.Table.{IsRow, IsToken}
+use Rattle.ll1_engine.specs.Table.{IsRow}
 use Rattle.ll1_engine.specs.Trees.{Trees, End, Leaf, Node, roots, leaves, preorder, AreTrees}
 use Rattle.ll1_engine.specs.Parse.{first_or, TakesRank, RanksAllow}
 

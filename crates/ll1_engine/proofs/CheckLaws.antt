@@ -1,20 +1,18 @@
 -- Laws of the checks of a row.
-use Rattle.std.proofs.Common.{◌≡◌, ◌≢◌, ℕ, zero, suc, ◌+◌, ◌<◌, ◌≤◌, Bool, true, false, ◌||◌, ◌&&◌, eqb, leb, cond, List, [], ◌∷◌, ◌++◌, length, get_or, take, drop, Option, None, Some, refl, sym, ap, ◌∙◌, subst, inl, inr, ◌⊎◌, arith}
+use Rattle.std.proofs.Common.{◌≡◌, ◌≢◌, ℕ, zero, suc, ◌+◌, ◌<◌, ◌≤◌, Bool, true, false, eqb, leb, cond, List, [], ◌∷◌, ◌++◌, length, get_or, take, drop, refl, sym, ap, ◌∙◌, subst, inl, inr, arith}
 use Rattle.std.specs.Prelude.{IsTrue, ◌↔◌, MatchOption, ◌==◌}
 use Rattle.std.specs.List.{AllByRecursion}
-use Rattle.std.proofs.lemmas.Bool.{cases_eq, cases_lt, cases_Bool, leb-true, le-leb, eqb-true, eq-eqb, false≢true}
+use Rattle.std.proofs.lemmas.Bool.{cases_lt, leb-true, le-leb, eqb-true, eq-eqb, false≢true}
 use Rattle.std.proofs.lemmas.List.{take-append-drop, drop_more, length-take-le, get_or_at, length-append}
-use Rattle.std.proofs.lemmas.Option.{get_or_from_slice_get, slice_get_within, slice_get_read, slice_get-get_or}
+use Rattle.std.proofs.lemmas.Option.{get_or_from_slice_get}
 use Rattle.ll1_engine.specs.declared.grammar.Row.{Row}
 use Rattle.ll1_engine.specs.declared.fault.Break.{Break}
 use Rattle.ll1_engine.specs.declared.fault.Break.TheVariants.{Barren, Rank, Nullable as NullableTwice, First, Follow}
-use Rattle.ll1_engine.specs.Table.{IsRow, IsToken, RowIsBelow}
-use Rattle.ll1_engine.specs.Trees.{DerivesSome, Nullable}
-use Rattle.ll1_engine.specs.First.{InFirst, IsFirstSet, BeginsWith, InFollow}
-use Rattle.ll1_engine.specs.Conditions.{IsOther, StandsOnlyFirstIn, MayRank, BothNullable, SharesFirst, MeetsFollow, Meets, Breaks, place_of}
-use Rattle.ll1_engine.specs.Marks.{marked, Has}
+use Rattle.ll1_engine.specs.Table.{IsRow, IsToken}
+use Rattle.ll1_engine.specs.First.{InFirst, BeginsWith}
+use Rattle.ll1_engine.specs.Conditions.{StandsOnlyFirstIn, MayRank, BothNullable, SharesFirst, MeetsFollow, place_of}
+use Rattle.ll1_engine.specs.Marks.{Has}
 use Rattle.ll1_engine.specs.Survey.{AreBelow, MarksEmptyRows, MarksBegunRows, OtherMarked, HasPlainTwin, BeginsAndFollows}
-use Rattle.ll1_engine.proofs.Beside.{same_row}
 
 -- the row that was read at a place is the row of the table there
 pub row_read : (g : List Row) (k : ℕ) (r x : Row) → IsRow g k r → x ≡ get_or g k x → x ≡ r

@@ -1,14 +1,14 @@
 -- In an accepted table the predicted row is the one that each derivation takes, but for an empty row that stands
 -- where the row with the rank can be taken.
-use Rattle.std.proofs.Common.{◌≡◌, ◌≢◌, ℕ, ◌<◌, List, [], ◌∷◌, ◌++◌, Option, None, Some, refl, sym, ap, ◌∙◌, subst, inl, inr, ◌⊎◌, arith}
+use Rattle.std.proofs.Common.{◌≡◌, ℕ, ◌<◌, List, [], ◌∷◌, ◌++◌, Option, None, Some, refl, sym, ap, ◌∙◌, subst, inl, inr, ◌⊎◌, arith}
 use Rattle.std.proofs.lemmas.Bool.{cases_eq}
 use Rattle.ll1_engine.specs.declared.grammar.Row.{Row}
 use Rattle.ll1_engine.specs.declared.fault.Break.TheVariants.{Rank, Nullable as NullableTwice, First, Follow}
 use Rattle.ll1_engine.specs.Table.{IsRow, IsToken}
-use Rattle.ll1_engine.specs.Trees.{Trees, End, Leaf, Node, roots, leaves, AreTrees, Nullable}
+use Rattle.ll1_engine.specs.Trees.{Trees, Node, roots, leaves, AreTrees, Nullable}
 use Rattle.ll1_engine.specs.First.{BeginsWith, InFollow}
-use Rattle.ll1_engine.specs.Conditions.{IsOther, MayRank, IsGood}
-use Rattle.ll1_engine.specs.Prediction.{PicksNullable, PicksFirst, Predicts}
+use Rattle.ll1_engine.specs.Conditions.{IsOther, IsGood}
+use Rattle.ll1_engine.specs.Prediction.{PicksNullable, Predicts}
 use Rattle.ll1_engine.specs.Parse.{first_or, TakesRank}
 use Rattle.ll1_engine.proofs.Beside.{same_row, no_parts}
 use Rattle.ll1_engine.proofs.Begins.{Follows, begins_trees, nullable_trees, BeginsWith-token, BeginsWith-head, InFirst-itself}

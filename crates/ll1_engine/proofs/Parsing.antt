@@ -1,10 +1,10 @@
 -- The loop of the parser, over plain lists: the start, each step, each stop and the end.
 use Rattle.std.proofs.Common.{◌≡◌, ℕ, ◌+◌, ◌<◌, ◌≤◌, List, [], ◌∷◌, ◌++◌, length, take, drop, get_or, Option, None, Some, Result, Ok, Err, Bool, true, refl, sym, ap, ◌∙◌, subst, inl, inr, ◌⊎◌, arith}
-use Rattle.std.proofs.lemmas.List.{append-nil, take-append-drop, length-take-le, take_more, drop_more, drop_all, take_all}
+use Rattle.std.proofs.lemmas.List.{take-append-drop, length-take-le, take_more, drop_more, drop_all, take_all}
 use Rattle.std.specs.Prelude.{OnOk, is_ok}
 use Rattle.std.specs.List.{AllByRecursion}
 use Rattle.ll1_engine.specs.declared.grammar.Row.{Row}
-use Rattle.ll1_engine.specs.Table.{IsRow, IsToken, RowIsBelow, FitsIn}
+use Rattle.ll1_engine.specs.Table.{IsRow, IsToken, FitsIn}
 use Rattle.ll1_engine.specs.Conditions.{IsGood}
 use Rattle.ll1_engine.specs.Prediction.{Predicts}
 use Rattle.ll1_engine.specs.Parse.{first_or, IsTreeOf, StopsAt}

@@ -3,11 +3,11 @@ use Rattle.std.proofs.Common.{◌≡◌, ◌≢◌, ℕ, zero, suc, ◌+◌, ◌
 use Rattle.std.specs.Prelude.{IsTrue, replicate, ◌↔◌}
 use Rattle.std.specs.List.{AllByRecursion}
 use Rattle.std.proofs.lemmas.List.{get_or-set_same, get_or-set_other, get_or_past, get_or_at, drop_at, take-append-drop, drop_more, append-nil}
-use Rattle.std.proofs.lemmas.Bool.{cases_eq, cases_lt, cases_Bool, and_parts, and_from, or_cases, or_left, or_right, false≢true}
+use Rattle.std.proofs.lemmas.Bool.{cases_eq, cases_lt, and_parts, and_from, or_cases, or_left, or_right, false≢true}
 use Rattle.ll1_engine.specs.declared.grammar.Row.{Row}
-use Rattle.ll1_engine.specs.Table.{IsRow, IsToken, RowIsBelow}
-use Rattle.ll1_engine.specs.Trees.{Trees, End, Leaf, Node, roots, leaves, AreTrees, Derives, DerivesSome, Nullable}
-use Rattle.ll1_engine.specs.First.{InFirst, IsFirstSet, BeginsWith, InFollow, IsFollowSet}
+use Rattle.ll1_engine.specs.Table.{IsRow, IsToken}
+use Rattle.ll1_engine.specs.Trees.{Trees, End, Leaf, Node, roots, leaves, AreTrees, Nullable}
+use Rattle.ll1_engine.specs.First.{BeginsWith, IsFollowSet}
 use Rattle.ll1_engine.specs.Marks.{marked, Has, all_in, begins_in, follows_in, DerivesWithin, FirstClosedAt, FollowClosed, Within}
 use Rattle.ll1_engine.specs.Survey.{AreBelow, MarksTokens, MarksAlive, MarksNullable, MarksFirst, MarksFollow}
 use Rattle.ll1_engine.proofs.Begins.{Nullable-nil, Nullable-append, Nullable-parts}

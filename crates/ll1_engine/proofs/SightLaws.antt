@@ -1,14 +1,11 @@
 -- What is found out for one token more, and what a marked row for each symbol says.
-use Rattle.std.proofs.Common.{◌≡◌, ℕ, ◌+◌, ◌<◌, Bool, true, List, [], ◌∷◌, ◌++◌, length, get_or, Option, None, Some, refl, sym, ap, ◌∙◌, subst, inl, inr, ◌⊎◌, arith}
-use Rattle.std.specs.Prelude.{IsTrue, ◌↔◌}
+use Rattle.std.proofs.Common.{◌≡◌, ℕ, ◌+◌, Bool, List, [], ◌∷◌, ◌++◌, get_or, Option, None, Some, refl, sym, ap, ◌∙◌, subst, inl, inr, arith}
 use Rattle.std.proofs.lemmas.Bool.{cases_lt}
 use Rattle.std.proofs.lemmas.List.{get_or_append_left, get_or_push, length_push}
 use Rattle.ll1_engine.specs.declared.grammar.Row.{Row}
 use Rattle.ll1_engine.specs.Table.{IsRow}
-use Rattle.ll1_engine.specs.Trees.{Nullable}
-use Rattle.ll1_engine.specs.First.{BeginsWith}
 use Rattle.ll1_engine.specs.Prediction.{PicksNullable, PicksFirst}
-use Rattle.ll1_engine.specs.Marks.{marked, Has, all_in, begins_in}
+use Rattle.ll1_engine.specs.Marks.{marked, all_in, begins_in}
 use Rattle.ll1_engine.specs.Survey.{MarksNullable, MarksFirst, MarksEmptyRows, MarksBegunRows, PicksMarked, IsSight, AreSights}
 use Rattle.ll1_engine.proofs.SetLaws.{all_nullable, begins_exact}
 

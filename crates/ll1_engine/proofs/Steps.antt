@@ -1,17 +1,15 @@
 -- The state of a parse, and how each step keeps it. The stack holds the symbols that are still to be derived.
-use Rattle.std.proofs.Common.{◌≡◌, ◌≢◌, ℕ, ◌<◌, List, [], ◌∷◌, ◌++◌, Option, None, Some, refl, sym, ap, ◌∙◌, subst, inl, inr, ◌⊎◌, append_assoc}
-use Rattle.std.proofs.lemmas.List.{append-nil}
-use Rattle.std.specs.List.{AllByRecursion}
+use Rattle.std.proofs.Common.{◌≡◌, ◌≢◌, ℕ, ◌<◌, List, [], ◌∷◌, ◌++◌, Option, None, Some, refl, sym, ap, ◌∙◌, subst, inl, inr, append_assoc}
 use Rattle.ll1_engine.specs.declared.grammar.Row.{Row}
 use Rattle.ll1_engine.specs.declared.fault.Break.TheVariants.{Rank}
 use Rattle.ll1_engine.specs.Table.{IsRow, IsToken}
 use Rattle.ll1_engine.specs.Trees.{Trees, End, Leaf, Node, roots, leaves, preorder, AreTrees}
-use Rattle.ll1_engine.specs.Conditions.{MayRank, IsGood}
+use Rattle.ll1_engine.specs.Conditions.{IsGood}
 use Rattle.ll1_engine.specs.Prediction.{Predicts}
 use Rattle.ll1_engine.specs.Parse.{first_or, TakesRank, RanksAllow}
-use Rattle.ll1_engine.proofs.Beside.{beside, roots-beside, leaves-beside, preorder-beside, AreTrees-beside, RanksAllow-beside, RanksAllow-parts, Parts, parts, same_row}
+use Rattle.ll1_engine.proofs.Beside.{beside, roots-beside, leaves-beside, preorder-beside, AreTrees-beside, RanksAllow-beside, RanksAllow-parts, parts, same_row}
 use Rattle.ll1_engine.proofs.Begins.{Follows, Follows-row}
-use Rattle.ll1_engine.proofs.Swap.{Lacks, lacks_elsewhere, Moved, moved}
+use Rattle.ll1_engine.proofs.Swap.{Lacks, lacks_elsewhere, moved}
 use Rattle.ll1_engine.proofs.Choice.{Yields, choice_of, TakesRank-predicted}
 
 -- there are trees with these roots and these leaves

@@ -1,13 +1,13 @@
 -- What a finished parse has found, and what a stopped one shows. No symbol is barren, so whatever the stack still
 -- holds after a token that was taken can be completed: this makes the place of a stop exact.
-use Rattle.std.proofs.Common.{◌≡◌, ◌≢◌, ℕ, ◌+◌, ◌<◌, ◌≤◌, Bool, true, false, ◌||◌, eqb, List, [], ◌∷◌, ◌++◌, length, take, Option, None, Some, refl, sym, ap, ◌∙◌, subst, inl, inr, ◌⊎◌, append_assoc, arith, zero, suc}
+use Rattle.std.proofs.Common.{◌≡◌, ℕ, ◌+◌, ◌<◌, ◌≤◌, true, false, List, [], ◌∷◌, ◌++◌, length, take, None, refl, sym, ap, ◌∙◌, subst, inl, inr, append_assoc, arith}
 use Rattle.std.proofs.lemmas.List.{append-nil, take_at, length-append}
 use Rattle.std.proofs.lemmas.Bool.{cases_Bool, false≢true}
 use Rattle.std.specs.List.{AllByRecursion}
 use Rattle.ll1_engine.specs.declared.grammar.Row.{Row}
 use Rattle.ll1_engine.specs.declared.fault.Break.TheVariants.{Barren}
-use Rattle.ll1_engine.specs.Table.{IsRow, IsToken}
-use Rattle.ll1_engine.specs.Trees.{Trees, End, Leaf, Node, roots, leaves, preorder, AreTrees, Derives, DerivesSome}
+use Rattle.ll1_engine.specs.Table.{IsToken}
+use Rattle.ll1_engine.specs.Trees.{Trees, End, Leaf, Node, roots, leaves, preorder, DerivesSome}
 use Rattle.ll1_engine.specs.Conditions.{IsGood}
 use Rattle.ll1_engine.specs.Parse.{first_or, IsTreeOf, CanGoOn, StopsAt}
 use Rattle.ll1_engine.proofs.Beside.{beside, roots-beside, leaves-beside, AreTrees-beside}

@@ -1,5 +1,5 @@
 -- The five conditions that the rows of a table meet or break.
-use Rattle.std.specs.Prelude.{◌≡◌, ◌≢◌, ℕ, ◌<◌, List, [], ◌∷◌, ◌++◌, ◌⊎◌, Some}
+use Rattle.std.specs.Prelude.{◌≡◌, ◌≢◌, ℕ, ◌<◌, List, [], ◌∷◌, ◌++◌, Some}
 use Rattle.ll1_engine.specs.declared.grammar.Row.{Row}
 use Rattle.ll1_engine.specs.declared.fault.Break.{Break}
 use Rattle.ll1_engine.specs.declared.fault.Break.TheVariants.{Barren, Rank, Nullable as NullableTwice, First, Follow}

@@ -1,6 +1,6 @@
 -- FIRST and FOLLOW, the textbook's least sets. Each is given for one token, as the set of the symbols that
 -- have the token in their FIRST, or in their FOLLOW.
-use Rattle.std.specs.Prelude.{◌≡◌, ℕ, Bool, IsTrue, List, [], ◌∷◌, ◌++◌, Option, None, Some}
+use Rattle.std.specs.Prelude.{◌≡◌, ℕ, Bool, IsTrue, List, ◌∷◌, ◌++◌, Option, None, Some}
 use Rattle.ll1_engine.specs.declared.grammar.Row.{Row}
 use Rattle.ll1_engine.specs.Table.{IsRow, IsToken}
 use Rattle.ll1_engine.specs.Trees.{Nullable}

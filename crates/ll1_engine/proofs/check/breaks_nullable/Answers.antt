@@ -1,4 +1,4 @@
-use Rattle.std.proofs.Common.{List, Bool, false, length, ◌<◌, sym, subst, ◌∙◌, arith}
+use Rattle.std.proofs.Common.{List, Bool, false, sym, subst, ◌∙◌, arith}
 use Rattle.std.proofs.lemmas.List.{get_or_read}
 use Rattle.std.specs.Prelude.{IsTrue, ◌↔◌}
 use Rattle.ll1_engine.specs.Survey.{OtherMarked}

@@ -1,4 +1,4 @@
-use Rattle.std.proofs.Common.{◌≡◌, ◌<◌, length, sym, subst, inl, inr, arith, ℕ}
+use Rattle.std.proofs.Common.{◌≡◌, sym, subst, inl, inr, arith, ℕ}
 use Rattle.std.proofs.lemmas.Bool.{cases_lt}
 use Rattle.std.proofs.lemmas.Option.{slice_get_within}
 use Rattle.ll1_engine.specs.Table.{IsRow}

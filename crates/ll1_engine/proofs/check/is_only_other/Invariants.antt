@@ -1,6 +1,6 @@
-use Rattle.std.proofs.Common.{◌≡◌, ◌≢◌, ℕ, ◌<◌, ◌≤◌, List, [], Some, length, take, drop, get_or}
+use Rattle.std.proofs.Common.{◌≡◌, ℕ, ◌<◌}
 use Rattle.ll1_engine.specs.declared.grammar.Row.{Row}
-use Rattle.ll1_engine.specs.Table.{IsRow, RowIsBelow}
+use Rattle.ll1_engine.specs.Table.{IsRow}
 use Rattle.ll1_engine.specs.Conditions.{IsOther}
 use Rattle.ll1_engine.proofs.check.is_only_other.Given as goal
 

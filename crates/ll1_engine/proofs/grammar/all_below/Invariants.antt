@@ -1,4 +1,4 @@
-use Rattle.std.proofs.Common.{◌≡◌, ◌≢◌, ℕ, ◌<◌, ◌≤◌, List, [], Some, length, take, drop, get_or}
+use Rattle.std.proofs.Common.{◌<◌, drop}
 use Rattle.std.specs.List.{AllByRecursion}
 use Rattle.ll1_engine.proofs.grammar.all_below.Given as goal
 

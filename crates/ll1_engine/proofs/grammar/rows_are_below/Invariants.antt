@@ -1,4 +1,4 @@
-use Rattle.std.proofs.Common.{◌≡◌, ◌≢◌, ℕ, ◌<◌, ◌≤◌, List, [], Some, length, take, drop, get_or}
+use Rattle.std.proofs.Common.{ℕ, ◌<◌}
 use Rattle.ll1_engine.specs.declared.grammar.Row.{Row}
 use Rattle.ll1_engine.specs.Table.{IsRow, RowIsBelow}
 use Rattle.ll1_engine.proofs.grammar.rows_are_below.Given as goal

@@ -1,10 +1,9 @@
-use Rattle.std.proofs.Common.{◌≡◌, ℕ, List, [], ◌∷◌, ◌++◌, Some, None, Err, Bool, true, false, cond, drop, get_or, refl, sym, ap, ◌∙◌, subst, arith, length}
-use Rattle.std.specs.Prelude.{OnOk, is_ok}
+use Rattle.std.proofs.Common.{◌≡◌, ℕ, List, [], ◌∷◌, ◌++◌, Some, None, drop, get_or, sym, ap, ◌∙◌, subst}
+use Rattle.std.specs.Prelude.{is_ok}
 use Rattle.std.proofs.lemmas.Option.{get_or_from_slice_get}
 use Rattle.std.proofs.lemmas.Bool.{false≢true, cond-true}
 use Rattle.ll1_engine.specs.declared.fault.Stop.{Stop}
 use Rattle.ll1_engine.specs.declared.grammar.Row.{Row}
-use Rattle.ll1_engine.specs.Table.{IsRow}
 use Rattle.ll1_engine.specs.Prediction.{Predicts}
 use Rattle.ll1_engine.specs.Parse.{first_or, StopsAt}
 use Rattle.ll1_engine.proofs.Parsing.{IsUnderWay, ok_gives, predicted, under_way_start, under_way_token, under_way_row, stop_at_token, stop_at_symbol, stop_at_end, tree_at_end, only_at_end}

@@ -1,4 +1,4 @@
-use Rattle.std.proofs.Common.{sym, subst, ◌∙◌, rules}
+use Rattle.std.proofs.Common.{rules}
 use Rattle.ll1_engine.proofs.MarkLaws.{AllDerive-seed, closed_derived}
 use Rattle.ll1_engine.proofs.sets.derivers.Goals as goal
 

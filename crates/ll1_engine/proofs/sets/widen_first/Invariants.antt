@@ -1,4 +1,4 @@
-use Rattle.std.proofs.Common.{ℕ, ◌<◌, Bool, List}
+use Rattle.std.proofs.Common.{ℕ, ◌<◌, Bool}
 use Rattle.std.specs.Prelude.{IsFalse}
 use Rattle.ll1_engine.specs.declared.grammar.Row.{Row}
 use Rattle.ll1_engine.specs.Table.{IsRow}

@@ -1,4 +1,4 @@
-use Rattle.std.proofs.Common.{◌≡◌, ℕ, Bool, true, sym, subst, inl, inr, ap, ◌∙◌, rules}
+use Rattle.std.proofs.Common.{sym, subst, rules}
 use Rattle.std.specs.Prelude.{IsTrue}
 use Rattle.ll1_engine.specs.Marks.{marked, begins_in, Within}
 use Rattle.ll1_engine.proofs.MarkLaws.{Within-set, begins_within}

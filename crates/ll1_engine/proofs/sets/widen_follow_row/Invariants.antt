@@ -1,4 +1,4 @@
-use Rattle.std.proofs.Common.{ℕ, ◌<◌, Bool, List}
+use Rattle.std.proofs.Common.{ℕ, ◌<◌, Bool}
 use Rattle.std.specs.Prelude.{IsFalse}
 use Rattle.ll1_engine.specs.Marks.{marked, Widens, FollowClosedAt, FollowClosed, Within}
 use Rattle.ll1_engine.proofs.sets.widen_follow_row.Given as goal

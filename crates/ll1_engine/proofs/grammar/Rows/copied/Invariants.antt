@@ -1,4 +1,4 @@
-use Rattle.std.proofs.Common.{◌≡◌, ◌≢◌, ℕ, ◌<◌, ◌≤◌, List, [], Some, length, take, drop, get_or}
+use Rattle.std.proofs.Common.{◌≡◌, take}
 use Rattle.ll1_engine.proofs.grammar.Rows.copied.Given as goal
 
 abbrev pub invariant-loop-row : goal.invariant-loop-row
