@@ -9,6 +9,11 @@ use Rattle.ll1_engine.specs.Marks.{marked, all_in, begins_in}
 use Rattle.ll1_engine.specs.Survey.{MarksNullable, MarksFirst, MarksEmptyRows, MarksBegunRows, PicksMarked, IsSight, AreSights}
 use Rattle.ll1_engine.proofs.SetLaws.{all_nullable, begins_exact}
 
+-- the same lists under other names
+pub IsSight-same : (size : ℕ) (g : List Row) (t : ℕ) (b b' f f' : List Bool) (c c' : List (Option ℕ)) → b' ≡ b → f' ≡ f → c' ≡ c → IsSight size g t b f c → IsSight size g t b' f' c'
+IsSight-same size g t b b' f f' c c' p q u h =
+    subst (λ (z : List Bool). IsSight size g t z f' c') (sym p) (subst (λ (z : List Bool). IsSight size g t b z c') (sym q) (subst (λ (z : List (Option ℕ)). IsSight size g t b f z) (sym u) h))
+
 pub AreSights-none : (size : ℕ) (g : List Row) → AreSights 0 size g [] [] []
 AreSights-none size g = record { begun_count = refl; follow_count = refl; first_count = refl; each = λ t lt. absurd (omega arith) }
 
@@ -24,17 +29,13 @@ AreSights-push n size g begun follows firsts b f c a s =
           let p : get_or (begun ++ b ∷ []) t [] ≡ get_or begun t [] = get_or_append_left begun (b ∷ []) [] t (let e = a.begun_count in omega arith) in
           let q : get_or (follows ++ f ∷ []) t [] ≡ get_or follows t [] = get_or_append_left follows (f ∷ []) [] t (let e = a.follow_count in omega arith) in
           let u : get_or (firsts ++ c ∷ []) t [] ≡ get_or firsts t [] = get_or_append_left firsts (c ∷ []) [] t (let e = a.first_count in omega arith) in
-          same_sight t _ _ _ _ _ _ p q u (a.each t less))
+          IsSight-same size g t _ _ _ _ _ _ p q u (a.each t less))
       | inr more ↦ (
           let e : t ≡ n = omega arith in
           subst (λ (z : ℕ). IsSight size g z (get_or (begun ++ b ∷ []) z []) (get_or (follows ++ f ∷ []) z []) (get_or (firsts ++ c ∷ []) z [])) (sym e)
-            (same_sight n _ _ _ _ _ _ (get_or_push begun b [] n a.begun_count) (get_or_push follows f [] n a.follow_count) (get_or_push firsts c [] n a.first_count) s))
+            (IsSight-same size g n _ _ _ _ _ _ (get_or_push begun b [] n a.begun_count) (get_or_push follows f [] n a.follow_count) (get_or_push firsts c [] n a.first_count) s))
       ];
     }
-  where
-    same_sight : (t : ℕ) (b' b'' f' f'' : List Bool) (c' c'' : List (Option ℕ)) → b' ≡ b'' → f' ≡ f'' → c' ≡ c'' → IsSight size g t b'' f'' c'' → IsSight size g t b' f' c'
-    same_sight t b' b'' f' f'' c' c'' p q u h =
-        subst (λ (z : List Bool). IsSight size g t z f' c') (sym p) (subst (λ (z : List Bool). IsSight size g t b'' z c') (sym q) (subst (λ (z : List (Option ℕ)). IsSight size g t b'' f'' z) (sym u) h))
 
 -- rows whose marks are computed from the marks of symbols
 pub begun_told : (g : List Row) (t : ℕ) (first nullable marks : List Bool) → MarksFirst g t first → MarksNullable g nullable

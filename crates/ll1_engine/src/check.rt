@@ -11,7 +11,7 @@ ghost use Rattle.ll1_engine.specs.Survey.{AreBelow, MarksTokens, MarksEmptyRows,
 use crate::checked::Checked;
 use crate::fault::{Break, CheckFault, TableFault};
 use crate::grammar::{Grammar, Row, Symbol, Token};
-use crate::survey::{Marks, Sights, Survey, survey_of};
+use crate::survey::{Sights, Survey, survey_of};
 
 use std::alloc::Global;
 

@@ -7,40 +7,15 @@ ghost use Rattle.ll1_engine.specs.Conditions.{IsGood};
 ghost use Rattle.ll1_engine.specs.Survey.{IsSurvey};
 ghost use Rattle.ll1_engine.specs.Prediction.{PicksFirst, PicksNullable, Predicts};
 
-use crate::grammar::{Row, Rows, Symbol, Token};
+use crate::grammar::{Row, Rows, Symbol, Token, copied};
 use crate::survey::{Sights, Survey};
 
+use sqlite_items::Items;
 use std::alloc::{AllocError, Global};
 use std::marker::Model;
 
 /// For each symbol a row, or none.
-#[derive(Debug, Drop)]
-pub(crate) struct Choices {
-    rows: Vec<Option<usize>>,
-}
-
-impl Model for Choices {
-    ghost use Rattle.std.specs.Prelude.{List, ℕ, Option};
-
-    ghost Value = { List (Option ℕ) };
-
-    ghost view = { λ c. c.rows.items };
-}
-
-impl Choices {
-    pub(crate) fn new(rows: Vec<Option<usize>>) -> Self
-        ensures { result ≡ rows.items }
-    {
-        Choices { rows }
-    }
-
-    fn get(&self, symbol: Symbol) -> Option<usize>
-        requires { symbol < length self.now }
-        ensures { result ≡ slice_index_or self.now symbol None }
-    {
-        self.rows[symbol]
-    }
-}
+pub(crate) type Choices = Items<Option<usize>>;
 
 /// A grammar whose rows meet the five conditions.
 #[derive(Debug, Drop)]
@@ -71,7 +46,7 @@ impl<const S: usize, const R: usize> Checked<S, R> {
         requires seen { IsSurvey S rows.now seen.tokens.items seen.alive.items seen.empty.items seen.nullables seen.sights.begun.items seen.sights.follows.items seen.sights.firsts.items }
         ensures { IfOk result (λ checked. checked ≡ rows.now) }
     {
-        let rows = Rows::copied(alloc, rows)?;
+        let rows = copied(alloc, rows)?;
         let Survey {
             tokens,
             alive: _,
@@ -115,7 +90,7 @@ impl<const S: usize, const R: usize> Checked<S, R> {
         requires token { token < S }
         ensures { PicksFirst self.now token symbol result }
     {
-        self.firsts[token].get(symbol)
+        self.firsts[token].as_slice()[symbol]
     }
 
     /// The row of the symbol that derives the empty list.
@@ -123,7 +98,7 @@ impl<const S: usize, const R: usize> Checked<S, R> {
         requires { symbol < S }
         ensures { PicksNullable self.now symbol result }
     {
-        self.nullables.get(symbol)
+        self.nullables.as_slice()[symbol]
     }
 
     /// The row to take for a symbol where the token, or the end, stands next.

@@ -1,10 +1,11 @@
 //! The grammar as data: symbols, rows and the table of all rows.
 
-ghost use Rattle.std.specs.Prelude.{◌≡◌, ℕ, ◌<◌, ◌↔◌, ◌++◌, [], ◌∷◌, List, length, IsSome, IfSome, IfOk, OnOk, OnErr, IsTrue};
+ghost use Rattle.std.specs.Prelude.{◌≡◌, ℕ, ◌<◌, ◌↔◌, IsSome, IfSome, IfOk, IsTrue};
 ghost use Rattle.std.specs.List.{AllByRecursion};
 ghost use Rattle.ll1_engine.specs.declared.grammar.Row.{Row};
 ghost use Rattle.ll1_engine.specs.Table.{IsRow, RowIsBelow, FitsIn};
 
+use sqlite_items::Items;
 use std::alloc::{AllocError, Global};
 use std::marker::Model;
 
@@ -15,41 +16,7 @@ pub type Symbol = usize;
 pub type Token = Symbol;
 
 /// A list of symbols.
-#[derive(Debug, Drop)]
-pub struct Symbols {
-    items: Vec<Symbol>,
-}
-
-impl Model for Symbols {
-    ghost use Rattle.std.specs.Prelude.{ℕ, List};
-
-    ghost Value = { List ℕ };
-
-    ghost view = { λ s. s.items.items };
-}
-
-impl Symbols {
-    pub fn new(alloc: Global) -> Self
-        ensures { result ≡ [] }
-    {
-        Symbols {
-            items: Vec::new(alloc),
-        }
-    }
-
-    pub fn from_slice(alloc: Global, symbols: &[Symbol]) -> Result<Self, AllocError>
-        ensures { IfOk result (λ s. s ≡ symbols.now) }
-    {
-        let items = Vec::from_slice(alloc, symbols)?;
-        Ok(Symbols { items })
-    }
-
-    pub fn as_slice(&self) -> &[Symbol]
-        ensures { result.now ≡ self.now }
-    {
-        self.items.as_slice()
-    }
-}
+pub type Symbols = Items<Symbol>;
 
 /// A row of a grammar: its left symbol stands for the symbols of its right side, in order. A rank above 0
 /// lets the row be taken wherever its first token stands next.
@@ -61,58 +28,22 @@ pub struct Row {
 }
 
 /// A list of rows. A row is named by its place, from 0 on.
-#[derive(Debug, Drop)]
-pub struct Rows {
-    items: Vec<Row>,
-}
+pub type Rows = Items<Row>;
 
-impl Model for Rows {
-    ghost use Rattle.std.specs.Prelude.{List};
-    ghost use Rattle.ll1_engine.specs.declared.grammar.Row.{Row};
-
-    ghost Value = { List Row };
-
-    ghost view = { λ r. r.items.items };
-}
-
-impl Rows {
-    pub fn new(alloc: Global) -> Self
-        ensures { result ≡ [] }
-    {
-        Rows {
-            items: Vec::new(alloc),
-        }
+/// A copy of the rows.
+pub(crate) fn copied(alloc: Global, rows: &[Row]) -> Result<Rows, AllocError>
+    ensures { IfOk result (λ r. r ≡ rows.now) }
+{
+    let mut items = Vec::new(alloc);
+    for row in rows {
+        let right = Symbols::from_slice(alloc, row.right.as_slice())?;
+        items.push(Row {
+            left: row.left,
+            right,
+            rank: row.rank,
+        })?;
     }
-
-    /// A copy of the rows.
-    pub(crate) fn copied(alloc: Global, rows: &[Row]) -> Result<Self, AllocError>
-        ensures { IfOk result (λ r. r ≡ rows.now) }
-    {
-        let mut items = Vec::new(alloc);
-        for row in rows {
-            let right = Symbols::from_slice(alloc, row.right.as_slice())?;
-            items.push(Row {
-                left: row.left,
-                right,
-                rank: row.rank,
-            })?;
-        }
-        Ok(Rows { items })
-    }
-
-    pub fn push(&mut self, row: Row) -> Result<(), AllocError>
-        ensures ok { OnOk result (self.new ≡ self.old ++ row ∷ []) }
-        ensures err { OnErr result (self.new ≡ self.old) }
-    {
-        self.items.push(row)?;
-        Ok(())
-    }
-
-    pub fn as_slice(&self) -> &[Row]
-        ensures { result.now ≡ self.now }
-    {
-        self.items.as_slice()
-    }
+    Ok(Rows::from_vec(items))
 }
 
 fn all_below(n: usize, symbols: &[Symbol]) -> bool

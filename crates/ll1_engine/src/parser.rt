@@ -10,30 +10,12 @@ use crate::checked::Checked;
 use crate::fault::{ParseFault, Stop};
 use crate::grammar::{Symbol, Token};
 
+use sqlite_items::Items;
 use std::alloc::{AllocError, Global};
 use std::marker::Model;
 
 /// A tree, as the rows of its nodes in preorder.
-#[derive(Debug, Drop)]
-pub struct Tree {
-    rows: Vec<usize>,
-}
-
-impl Model for Tree {
-    ghost use Rattle.std.specs.Prelude.{List, ℕ};
-
-    ghost Value = { List ℕ };
-
-    ghost view = { λ t. t.rows.items };
-}
-
-impl Tree {
-    pub fn rows(&self) -> &[usize]
-        ensures { result.now ≡ self.now }
-    {
-        self.rows.as_slice()
-    }
-}
+pub type Tree = Items<usize>;
 
 /// The symbols that are still to be derived, the next one on top.
 #[derive(Drop)]
@@ -127,5 +109,5 @@ pub fn parse<const S: usize, const R: usize>(
     if at < tokens.len() {
         return Err(ParseFault::Stop(Stop { at }));
     }
-    Ok(Tree { rows })
+    Ok(Tree::from_vec(rows))
 }

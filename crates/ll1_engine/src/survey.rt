@@ -11,30 +11,11 @@ use crate::checked::Choices;
 use crate::grammar::{Row, Symbol, Token};
 use crate::sets::{all_marked, begins, derivers, spread_first, spread_follow};
 
+use sqlite_items::Items;
 use std::alloc::{AllocError, Global};
-use std::marker::Model;
 
 /// A mark for each symbol, or for each row.
-#[derive(Debug, Drop)]
-pub(crate) struct Marks {
-    items: Vec<bool>,
-}
-
-impl Model for Marks {
-    ghost use Rattle.std.specs.Prelude.{List, Bool};
-
-    ghost Value = { List Bool };
-
-    ghost view = { λ m. m.items.items };
-}
-
-impl Marks {
-    pub(crate) fn as_slice(&self) -> &[bool]
-        ensures { result.now ≡ self.now }
-    {
-        self.items.as_slice()
-    }
-}
+type Marks = Items<bool>;
 
 /// What is found out for one token: the rows that have it in their FIRST, the symbols that have it in their
 /// FOLLOW, and for each symbol its row that has it in its FIRST.
@@ -186,9 +167,9 @@ fn see_token(alloc: Global, rows: &[Row], tokens: &[bool], nullable: &[bool], to
     let begun = begun_rows(alloc, rows, first.as_slice(), nullable)?;
     let choices = picks(alloc, tokens.len(), rows, begun.as_slice())?;
     Ok(Sight {
-        begun: Marks { items: begun },
-        follow: Marks { items: follow },
-        first: Choices::new(choices),
+        begun: Marks::from_vec(begun),
+        follow: Marks::from_vec(follow),
+        first: Choices::from_vec(choices),
     })
 }
 
@@ -231,7 +212,7 @@ pub(crate) fn survey_of(alloc: Global, size: usize, rows: &[Row]) -> Result<Surv
         tokens,
         alive,
         empty,
-        nullables: Choices::new(choices),
+        nullables: Choices::from_vec(choices),
         sights,
     })
 }

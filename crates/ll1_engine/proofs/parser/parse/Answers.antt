@@ -5,7 +5,7 @@ use Rattle.std.proofs.lemmas.Bool.{false≢true, cond-true}
 use Rattle.ll1_engine.specs.declared.fault.Stop.{Stop}
 use Rattle.ll1_engine.specs.declared.grammar.Row.{Row}
 use Rattle.ll1_engine.specs.Prediction.{Predicts}
-use Rattle.ll1_engine.specs.Parse.{first_or, StopsAt}
+use Rattle.ll1_engine.specs.Parse.{first_or, IsTreeOf, StopsAt}
 use Rattle.ll1_engine.proofs.Parsing.{IsUnderWay, ok_gives, predicted, under_way_start, under_way_token, under_way_row, stop_at_token, stop_at_symbol, stop_at_end, tree_at_end, only_at_end}
 use Rattle.ll1_engine.proofs.parser.parse.Goals as goal
 
@@ -63,11 +63,11 @@ returns-then-at-tokens-clause-stop g c = λ stop h.
         c.loop-symbol.at c.loop-symbol.rows.items c.loop-symbol.stack c.loop-symbol.invariant c.in_default.ensures c.if-at-tokens.true)
 
 pub returns-clause-tree : goal.returns-clause-tree
-returns-clause-tree g c =
-    tree_at_end g.row.S g.row.R c.args.checked.now c.rows-table.ensures.good c.rows-table.ensures.fits c.args.tokens.now c.requires
-      c.loop-symbol.at c.loop-symbol.rows.items c.loop-symbol.stack c.loop-symbol.invariant c.in_default.ensures c.if-at-tokens.false
+returns-clause-tree g c = subst (λ (zs : List ℕ). IsTreeOf c.args.checked.now zs c.args.tokens.now) (sym c.from_vec.ensures)
+    (tree_at_end g.row.S g.row.R c.args.checked.now c.rows-table.ensures.good c.rows-table.ensures.fits c.args.tokens.now c.requires
+      c.loop-symbol.at c.loop-symbol.rows.items c.loop-symbol.stack c.loop-symbol.invariant c.in_default.ensures c.if-at-tokens.false)
 
 pub returns-clause-only : goal.returns-clause-only
-returns-clause-only g c =
+returns-clause-only g c = λ other t.
     only_at_end g.row.S g.row.R c.args.checked.now c.rows-table.ensures.good c.rows-table.ensures.fits c.args.tokens.now c.requires
-      c.loop-symbol.at c.loop-symbol.rows.items c.loop-symbol.stack c.loop-symbol.invariant c.in_default.ensures c.if-at-tokens.false
+      c.loop-symbol.at c.loop-symbol.rows.items c.loop-symbol.stack c.loop-symbol.invariant c.in_default.ensures c.if-at-tokens.false other t ∙ sym c.from_vec.ensures
