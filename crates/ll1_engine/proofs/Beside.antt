@@ -44,21 +44,25 @@ pub RanksAllow-beside : (g : List Row) (f h : Trees) (next : Option ℕ) → Ran
 RanksAllow-beside g End h next a b = b
 RanksAllow-beside g (Leaf x f) h next a b = RanksAllow-beside g f h next a b
 RanksAllow-beside g (Node k r c f) h next a b =
-    let e : leaves (beside f h) ≡ leaves f ++ leaves h = leaves-beside f h in
-    (subst (λ (n : Option ℕ). TakesRank g k r n) (sym (ap (λ (ys : List ℕ). first_or (leaves c ++ ys) next) e ∙ next_beside (leaves c) (leaves f) (leaves h) next)) a.0,
-     subst (λ (n : Option ℕ). RanksAllow g c n) (sym (ap (λ (ys : List ℕ). first_or ys next) e ∙ first_or-append (leaves f) (leaves h) next)) a.1,
-     RanksAllow-beside g f h next a.2 b)
+    let e : leaves (beside f h) ≡ leaves f ++ leaves h = leaves-beside f h in (
+      subst (λ (n : Option ℕ). TakesRank g k r n) (sym (ap (λ (ys : List ℕ). first_or (leaves c ++ ys) next) e ∙ next_beside (leaves c) (leaves f) (leaves h) next)) a.0,
+      subst (λ (n : Option ℕ). RanksAllow g c n) (sym (ap (λ (ys : List ℕ). first_or ys next) e ∙ first_or-append (leaves f) (leaves h) next)) a.1,
+      RanksAllow-beside g f h next a.2 b,
+    )
 
 pub RanksAllow-parts : (g : List Row) (f h : Trees) (next : Option ℕ) → RanksAllow g (beside f h) next → RanksAllow g f (first_or (leaves h) next) × RanksAllow g h next
 RanksAllow-parts g End h next a = (tt, a)
 RanksAllow-parts g (Leaf x f) h next a = RanksAllow-parts g f h next a
 RanksAllow-parts g (Node k r c f) h next a =
     let e : leaves (beside f h) ≡ leaves f ++ leaves h = leaves-beside f h in
-    let rest = RanksAllow-parts g f h next a.2 in
-    ((subst (λ (n : Option ℕ). TakesRank g k r n) (ap (λ (ys : List ℕ). first_or (leaves c ++ ys) next) e ∙ next_beside (leaves c) (leaves f) (leaves h) next) a.0,
-      subst (λ (n : Option ℕ). RanksAllow g c n) (ap (λ (ys : List ℕ). first_or ys next) e ∙ first_or-append (leaves f) (leaves h) next) a.1,
-      rest.0),
-     rest.1)
+    let rest = RanksAllow-parts g f h next a.2 in (
+      (
+        subst (λ (n : Option ℕ). TakesRank g k r n) (ap (λ (ys : List ℕ). first_or (leaves c ++ ys) next) e ∙ next_beside (leaves c) (leaves f) (leaves h) next) a.0,
+        subst (λ (n : Option ℕ). RanksAllow g c n) (ap (λ (ys : List ℕ). first_or ys next) e ∙ first_or-append (leaves f) (leaves h) next) a.1,
+        rest.0,
+      ),
+      rest.1,
+    )
 
 -- trees whose roots are xs and then ys are trees with the roots xs beside trees with the roots ys
 pub record Parts (g : List Row) (f : Trees) (xs ys : List ℕ) : Type 0 where
@@ -75,12 +79,26 @@ parts g [] ys f v e = record { front = End; back = f; whole = refl; front_valid 
 parts g (x ∷ xs) ys End v e = absurd (cc)
 parts g (x ∷ xs) ys (Leaf y f) v e =
     let p = parts g xs ys f v (cc) in
-    record { front = Leaf y p.front; back = p.back; whole = ap (λ (t : Trees). Leaf y t) p.whole; front_valid = p.front_valid; back_valid = p.back_valid;
-      front_top = (let i : y ≡ x = cc in let k : roots p.front ≡ xs = p.front_top in cc); back_top = p.back_top }
+    record {
+      front = Leaf y p.front;
+      back = p.back;
+      whole = ap (λ (t : Trees). Leaf y t) p.whole;
+      front_valid = p.front_valid;
+      back_valid = p.back_valid;
+      front_top = (let i : y ≡ x = cc in let k : roots p.front ≡ xs = p.front_top in cc);
+      back_top = p.back_top;
+    }
 parts g (x ∷ xs) ys (Node k r c f) v e =
     let p = parts g xs ys f v.3 (cc) in
-    record { front = Node k r c p.front; back = p.back; whole = ap (λ (t : Trees). Node k r c t) p.whole; front_valid = (v.0, v.1, v.2, p.front_valid); back_valid = p.back_valid;
-      front_top = (let i : r.left ≡ x = cc in let k : roots p.front ≡ xs = p.front_top in cc); back_top = p.back_top }
+    record {
+      front = Node k r c p.front;
+      back = p.back;
+      whole = ap (λ (t : Trees). Node k r c t) p.whole;
+      front_valid = (v.0, v.1, v.2, p.front_valid);
+      back_valid = p.back_valid;
+      front_top = (let i : r.left ≡ x = cc in let k : roots p.front ≡ xs = p.front_top in cc);
+      back_top = p.back_top;
+    }
 
 -- a row is determined by its place
 pub same_row : (g : List Row) (k : ℕ) (r s : Row) → IsRow g k r → IsRow g k s → r ≡ s

@@ -34,14 +34,18 @@ stands_from_lacks g t k lacks = λ j s before after h e. by_place j s before aft
   where
     here : (s : Row) (before after : List ℕ) → s.right ≡ before ++ t ∷ after → get_or s.right (length before) 0 ≡ t
     here s before after e = ap (λ (zs : List ℕ). get_or zs (length before) 0) e ∙ get_or_at before t after 0 (length before) refl
+
     within : (s : Row) (before after : List ℕ) → s.right ≡ before ++ t ∷ after → length before < length s.right
     within s before after e = (let len : length s.right ≡ length before + length (t ∷ after) = ap (length {A = ℕ}) e ∙ length-append before (t ∷ after) in let l : length (t ∷ after) ≡ suc (length after) = refl in omega arith)
+
     by_place : (j : ℕ) (s : Row) (before after : List ℕ) → IsRow g j s → s.right ≡ before ++ t ∷ after → (b : Bool) → eqb j k ≡ b → (j ≡ k) × (before ≡ [])
-    by_place j s before after h e true is = (eqb-true j k is,
-        elim (cases_lt (length before) 1) [
-          inl short ↦ empty_front before short
+    by_place j s before after h e true is = (
+      eqb-true j k is,
+      elim (cases_lt (length before) 1) [
+        | inl short ↦ empty_front before short
         | inr long ↦ absurd (lacks j s h (length before) (subst (λ (b : Bool). cond b 1 0 ≤ length before) (sym is) long) (within s before after e) (here s before after e))
-        ])
+      ],
+    )
     by_place j s before after h e false is = absurd (lacks j s h (length before) (subst (λ (b : Bool). cond b 1 0 ≤ length before) (sym is) (omega arith)) (within s before after e) (here s before after e))
 
 pub lacks_from_stands : (g : List Row) (t k : ℕ) → StandsOnlyFirstIn g t k → (j : ℕ) (s : Row) → IsRow g j s → LacksPast t k j s
@@ -56,8 +60,8 @@ lacks_from_stands g t k once j s h = λ i from lt same.
 pub first_below : (size : ℕ) (g : List Row) → AreBelow size g → (x t : ℕ) → x < size → InFirst g x t → t < size
 first_below size g below x t lt f =
     elim (cases_lt t size) [
-      inl less ↦ less
-    | inr past ↦ (let h : size ≤ x = leb-true size x (f (λ y. leb size y) (record {
+      | inl less ↦ less
+      | inr past ↦ (let h : size ≤ x = leb-true size x (f (λ y. leb size y) (record {
         itself = λ tok. le-leb size t past;
         row = λ k r before y after i e n p. absurd (let y_below = part_below before y after (subst (AllByRecursion (λ z. z < size)) e (below k r i).right) in let y_above = leb-true size y p in omega arith);
       })) in omega arith)
@@ -102,8 +106,8 @@ follow_match g k r marks false m plain o h = λ f. false≢true (h.1 (f.token, f
 pub token_step : (P : ℕ → Type 0) (n t : ℕ) → ((u : ℕ) → u < n → P u) → P n → t < n + 1 → P t
 token_step P n t before here lt =
     elim (cases_lt t n) [
-      inl less ↦ before t less
-    | inr more ↦ (let same : t ≡ n = omega arith in subst P (sym same) here)
+      | inl less ↦ before t less
+      | inr more ↦ (let same : t ≡ n = omega arith in subst P (sym same) here)
     ]
 
 pub not_begun : (g : List Row) (k : ℕ) (r : Row) (t : ℕ) (marks read : List Bool) → MarksBegunRows g t marks → IsRow g k r → read ≡ marks → get_or read k false ≡ false → ¬ BeginsWith g r.right t
@@ -114,9 +118,10 @@ begun_here g k r t marks read m h same e = (m k r h).0 (ap (λ (z : List Bool). 
 
 -- a row that may have a rank, from its parts
 pub may_rank_match : (g : List Row) (k : ℕ) (r : Row) (token : ℕ) (rest : List ℕ) (b : Bool) → r.right ≡ token ∷ rest → IsToken g token → StandsOnlyFirstIn g token k → (IsTrue b ↔ HasPlainTwin g k r) → IsTrue b ↔ MayRank g k r
-may_rank_match g k r token rest b e terminal once twin =
-    (λ h. let t = twin.0 h in record { token = token; rest = rest; begins = e; terminal = terminal; once = once; j = t.j; s = t.s; other = t.other; empty = t.empty; plain = t.plain; only = t.only },
-     λ m. twin.1 (record { j = m.j; s = m.s; other = m.other; empty = m.empty; plain = m.plain; only = m.only }))
+may_rank_match g k r token rest b e terminal once twin = (
+  λ h. let t = twin.0 h in record { token = token; rest = rest; begins = e; terminal = terminal; once = once; j = t.j; s = t.s; other = t.other; empty = t.empty; plain = t.plain; only = t.only },
+  λ m. twin.1 (record { j = m.j; s = m.s; other = m.other; empty = m.empty; plain = m.plain; only = m.only }),
+)
 
 -- the first symbol of a list that is not empty, and the rest
 pub first_of_right : (xs : List ℕ) → eqb (length xs) 0 ≡ false → xs ≡ get_or xs 0 0 ∷ drop 1 xs

@@ -30,16 +30,16 @@ pub record Yields (g : List Row) (k : ℕ) (r : Row) (next choice : Option ℕ) 
 pub one_nullable : (g : List Row) (good : IsGood g) (k j : ℕ) (r s : Row) → IsRow g k r → IsRow g j s → s.left ≡ r.left → Nullable g r.right → Nullable g s.right → j ≡ k
 one_nullable g good k j r s h i left n m =
     elim (cases_eq j k) [
-      inl same ↦ same
-    | inr apart ↦ absurd (good k r NullableTwice h (record { j = j; s = s; other = record { row = i; left = left; apart = apart }; here = n; there = m }))
+      | inl same ↦ same
+      | inr apart ↦ absurd (good k r NullableTwice h (record { j = j; s = s; other = record { row = i; left = left; apart = apart }; here = n; there = m }))
     ]
 
 -- two rows of a symbol that begin with one token are one
 pub one_first : (g : List Row) (good : IsGood g) (k j : ℕ) (r s : Row) (t : ℕ) → IsRow g k r → IsRow g j s → s.left ≡ r.left → BeginsWith g r.right t → BeginsWith g s.right t → j ≡ k
 one_first g good k j r s t h i left b c =
     elim (cases_eq j k) [
-      inl same ↦ same
-    | inr apart ↦ absurd (good k r First h (record { token = t; j = j; s = s; other = record { row = i; left = left; apart = apart }; here = b; there = c }))
+      | inl same ↦ same
+      | inr apart ↦ absurd (good k r First h (record { token = t; j = j; s = s; other = record { row = i; left = left; apart = apart }; here = b; there = c }))
     ]
 
 -- a row that begins with t beside an empty row k, where t follows their symbol: the row has a rank
@@ -49,19 +49,19 @@ rank_or_none n = grind arith
 pub nullable_beside_first : (g : List Row) (good : IsGood g) (k j : ℕ) (r s : Row) (t : ℕ) (choice : Option ℕ) → IsRow g k r → IsRow g j s → s.left ≡ r.left → Nullable g r.right → BeginsWith g s.right t → InFollow g r.left (Some t) → choice ≡ Some j → (choice ≡ Some k) ⊎ Yields g k r (Some t) choice
 nullable_beside_first g good k j r s t choice h i left n b f e =
     elim (cases_eq j k) [
-      inl same ↦ inl (e ∙ ap (λ (z : ℕ). Some z) same)
-    | inr apart ↦ (
-      let other : IsOther g k r j s = record { row = i; left = left; apart = apart } in
-      let back : IsOther g j s k r = record { row = h; left = sym left; apart = λ same. apart (sym same) } in
-      elim (rank_or_none s.rank) [
-        inl plain ↦ absurd (good j s Follow i (record { plain = plain; token = t; j = k; s = r; other = back; empty = n; here = b; behind = subst (λ (x : ℕ). InFollow g x (Some t)) (sym left) f }))
-      | inr ranked ↦ (
-        let m = good j s Rank i ranked in
-        let same_token : m.token ≡ t = BeginsWith-token g m.token m.rest t m.terminal (subst (λ (xs : List ℕ). BeginsWith g xs t) m.begins b) in
-        let same_other : k ≡ m.j = m.only k r back in
-        let one : r ≡ m.s = same_row g m.j r m.s (subst (λ (z : ℕ). IsRow g z r) same_other h) m.other.row in
-        inr (record { j = j; s = s; other = other; chosen = e; token = m.token; rest = m.rest; begins = m.begins; ranked = ranked; stands = ap (λ (z : ℕ). Some z) (sym same_token); empty = ap (λ (q : Row). q.right) one ∙ m.empty }))
-      ])
+      | inl same ↦ inl (e ∙ ap (λ (z : ℕ). Some z) same)
+      | inr apart ↦ (
+          let other : IsOther g k r j s = record { row = i; left = left; apart = apart } in
+          let back : IsOther g j s k r = record { row = h; left = sym left; apart = λ same. apart (sym same) } in
+          elim (rank_or_none s.rank) [
+            | inl plain ↦ absurd (good j s Follow i (record { plain = plain; token = t; j = k; s = r; other = back; empty = n; here = b; behind = subst (λ (x : ℕ). InFollow g x (Some t)) (sym left) f }))
+            | inr ranked ↦ (
+                let m = good j s Rank i ranked in
+                let same_token : m.token ≡ t = BeginsWith-token g m.token m.rest t m.terminal (subst (λ (xs : List ℕ). BeginsWith g xs t) m.begins b) in
+                let same_other : k ≡ m.j = m.only k r back in
+                let one : r ≡ m.s = same_row g m.j r m.s (subst (λ (z : ℕ). IsRow g z r) same_other h) m.other.row in
+                inr (record { j = j; s = s; other = other; chosen = e; token = m.token; rest = m.rest; begins = m.begins; ranked = ranked; stands = ap (λ (z : ℕ). Some z) (sym same_token); empty = ap (λ (q : Row). q.right) one ∙ m.empty }))
+          ])
     ]
 
 -- a derivation whose first node is by row k
@@ -78,7 +78,6 @@ choice_by_follow g good k r t choice h n f (inl p) = nullable_beside_first g goo
 choice_by_follow g good k r t choice h n f (inr p) = inl (choice_at_end g good k r choice h n p.1)
 
 module _ (g : List Row) (good : IsGood g) (k : ℕ) (r : Row) (c f : Trees) (valid : AreTrees g (Node k r c f)) (behind : Follows g (r.left ∷ roots f)) where
-
   by_leaves : (choice : Option ℕ) (t : ℕ) (ts ls : List ℕ) → IsToken g t → leaves c ≡ ls → ls ++ leaves f ≡ t ∷ ts → Predicts g r.left (Some t) choice → (choice ≡ Some k) ⊎ Yields g k r (Some t) choice
   by_leaves choice t ts [] h e l p =
       choice_by_follow g good k r t choice valid.0 (subst (Nullable g) valid.1 (nullable_trees g c valid.2 e)) (behind.0 t (begins_trees g f t ts valid.3 l h)) p

@@ -21,15 +21,15 @@ unmarked-set_new (false ∷ marks) (suc i) lt e = ap suc (unmarked-set_new marks
 pub marked-set : (marks : List Bool) (i x : ℕ) → i < length marks → Has marks x → Has (set marks i true) x
 marked-set marks i x lt h =
     elim (cases_eq x i) [
-      inl same ↦ (ap (λ (z : ℕ). get_or (set marks i true) z false) same ∙ get_or-set_same marks i true false lt)
-    | inr apart ↦ (get_or-set_other marks i x true false apart ∙ h)
+      | inl same ↦ (ap (λ (z : ℕ). get_or (set marks i true) z false) same ∙ get_or-set_same marks i true false lt)
+      | inr apart ↦ (get_or-set_other marks i x true false apart ∙ h)
     ]
 
 pub marked_before : (marks : List Bool) (i x : ℕ) → Has (set marks i true) x → (x ≡ i) ⊎ Has marks x
 marked_before marks i x h =
     elim (cases_eq x i) [
-      inl same ↦ inl same
-    | inr apart ↦ inr (sym (get_or-set_other marks i x true false apart) ∙ h)
+      | inl same ↦ inl same
+      | inr apart ↦ inr (sym (get_or-set_other marks i x true false apart) ∙ h)
     ]
 
 pub Widens-set : (marks : List Bool) (i : ℕ) → i < length marks → Widens marks (set marks i true) (not (get_or marks i false))
@@ -54,21 +54,21 @@ Widens-then a b c false q v w =
 
 -- a pass that adds nothing finds each row closed
 pub closed_more : (P : List Bool → Row → Type 0) (rows : List Row) (i : ℕ) (row : Row) (old new : List Bool) (p q : Bool) → IsRow rows i row → Widens old new q
-  → (IsFalse p → (k : ℕ) (r : Row) → k < i → IsRow rows k r → P old r) → (IsFalse q → P new row) → IsFalse (p || q) → (k : ℕ) (r : Row) → k < i + 1 → IsRow rows k r → P new r
+    → (IsFalse p → (k : ℕ) (r : Row) → k < i → IsRow rows k r → P old r) → (IsFalse q → P new row) → IsFalse (p || q) → (k : ℕ) (r : Row) → k < i + 1 → IsRow rows k r → P new r
 closed_more P rows i row old new p q h w before here f k r lt e =
     let both = or_parts p q f in
     elim (cases_lt k i) [
-      inl less ↦ subst (λ (m : List Bool). P m r) (sym (w.same both.1)) (before both.0 k r less e)
-    | inr more ↦ (let same : k ≡ i = omega arith in subst (P new) (same_row rows i row r h (subst (λ (z : ℕ). IsRow rows z r) same e)) (here both.1))
+      | inl less ↦ subst (λ (m : List Bool). P m r) (sym (w.same both.1)) (before both.0 k r less e)
+      | inr more ↦ (let same : k ≡ i = omega arith in subst (P new) (same_row rows i row r h (subst (λ (z : ℕ). IsRow rows z r) same e)) (here both.1))
     ]
 
 pub closed_more_at : (P : List Bool → ℕ → Type 0) (i : ℕ) (old new : List Bool) (p q : Bool) → Widens old new q
-  → (IsFalse p → (k : ℕ) → k < i → P old k) → (IsFalse q → P new i) → IsFalse (p || q) → (k : ℕ) → k < i + 1 → P new k
+    → (IsFalse p → (k : ℕ) → k < i → P old k) → (IsFalse q → P new i) → IsFalse (p || q) → (k : ℕ) → k < i + 1 → P new k
 closed_more_at P i old new p q w before here f k lt =
     let both = or_parts p q f in
     elim (cases_lt k i) [
-      inl less ↦ subst (λ (m : List Bool). P m k) (sym (w.same both.1)) (before both.0 k less)
-    | inr more ↦ (let same : k ≡ i = omega arith in subst (P new) (sym same) (here both.1))
+      | inl less ↦ subst (λ (m : List Bool). P m k) (sym (w.same both.1)) (before both.0 k less)
+      | inr more ↦ (let same : k ≡ i = omega arith in subst (P new) (sym same) (here both.1))
     ]
 
 pub all_append : {X : Type 0} (P : X → Type 0) (xs ys : List X) → AllByRecursion P xs → AllByRecursion P ys → AllByRecursion P (xs ++ ys)
@@ -86,9 +86,12 @@ derive_list g seed marks (x ∷ xs) d h =
     let both = and_parts (marked marks x) (all_in (marked marks) xs) h in
     let a = d x both.0 in
     let b = derive_list g seed marks xs d both.1 in
-    record { trees = beside a.trees b.trees; valid = AreTrees-beside g a.trees b.trees a.valid b.valid;
+    record {
+      trees = beside a.trees b.trees;
+      valid = AreTrees-beside g a.trees b.trees a.valid b.valid;
       top = roots-beside a.trees b.trees ∙ (ap (λ (zs : List ℕ). zs ++ roots b.trees) a.top ∙ ap (λ (zs : List ℕ). x ∷ zs) b.top);
-      bottom = subst (AllByRecursion (Has seed)) (sym (leaves-beside a.trees b.trees)) (all_append (Has seed) (leaves a.trees) (leaves b.trees) a.bottom b.bottom) }
+      bottom = subst (AllByRecursion (Has seed)) (sym (leaves-beside a.trees b.trees)) (all_append (Has seed) (leaves a.trees) (leaves b.trees) a.bottom b.bottom);
+    }
 
 -- and so does the left of a row over them
 pub derive_row : (g : List Row) (seed : List Bool) (k : ℕ) (r : Row) → IsRow g k r → DerivesWithin g seed r.right → DerivesWithin g seed (r.left ∷ [])
@@ -98,8 +101,8 @@ derive_row g seed k r h d =
 pub AllDerive-set : (g : List Row) (seed marks : List Bool) (k : ℕ) (r : Row) → IsRow g k r → IsTrue (all_in (marked marks) r.right) → AllDerive g seed marks → AllDerive g seed (set marks r.left true)
 AllDerive-set g seed marks k r h all d = λ x m.
     elim (marked_before marks r.left x m) [
-      inl same ↦ subst (λ (z : ℕ). DerivesWithin g seed (z ∷ [])) (sym same) (derive_row g seed k r h (derive_list g seed marks r.right d all))
-    | inr old ↦ d x old
+      | inl same ↦ subst (λ (z : ℕ). DerivesWithin g seed (z ∷ [])) (sym same) (derive_row g seed k r h (derive_list g seed marks r.right d all))
+      | inr old ↦ d x old
     ]
 
 pub AllDerive-seed : (g : List Row) (seed : List Bool) → AllDerive g seed seed
@@ -125,8 +128,8 @@ closed_derived g seed marks w closed x d =
 pub Within-set : (marks : List Bool) (i : ℕ) (p : ℕ → Bool) → Within marks p → IsTrue (p i) → Within (set marks i true) p
 Within-set marks i p w h = λ x m.
     elim (marked_before marks i x m) [
-      inl same ↦ subst (λ (z : ℕ). IsTrue (p z)) (sym same) h
-    | inr old ↦ w x old
+      | inl same ↦ subst (λ (z : ℕ). IsTrue (p z)) (sym same) h
+      | inr old ↦ w x old
     ]
 
 -- a larger set begins all that a smaller one begins
@@ -134,17 +137,17 @@ pub begins_within : (marks : List Bool) (p nullable : ℕ → Bool) → Within m
 begins_within marks p nullable w [] h = h
 begins_within marks p nullable w (x ∷ xs) h =
     elim (or_cases (marked marks x) (nullable x && begins_in (marked marks) nullable xs) h) [
-      inl here ↦ or_left (p x) (nullable x && begins_in p nullable xs) (w x here)
-    | inr past ↦ (
-      let both = and_parts (nullable x) (begins_in (marked marks) nullable xs) past in
-      or_right (p x) (nullable x && begins_in p nullable xs) (and_from (nullable x) (begins_in p nullable xs) both.0 (begins_within marks p nullable w xs both.1)))
+      | inl here ↦ or_left (p x) (nullable x && begins_in p nullable xs) (w x here)
+      | inr past ↦ (
+          let both = and_parts (nullable x) (begins_in (marked marks) nullable xs) past in
+          or_right (p x) (nullable x && begins_in p nullable xs) (and_from (nullable x) (begins_in p nullable xs) both.0 (begins_within marks p nullable w xs both.1)))
     ]
 
 pub follows_within : (marks : List Bool) (first p nullable : ℕ → Bool) → Within marks p → (x : ℕ) (after : List ℕ) → IsTrue (follows_in first nullable (marked marks) x after) → IsTrue (follows_in first nullable p x after)
 follows_within marks first p nullable w x after h =
     elim (or_cases (begins_in first nullable after) (marked marks x && all_in nullable after) h) [
-      inl next ↦ or_left (begins_in first nullable after) (p x && all_in nullable after) next
-    | inr left ↦ (
-      let both = and_parts (marked marks x) (all_in nullable after) left in
-      or_right (begins_in first nullable after) (p x && all_in nullable after) (and_from (p x) (all_in nullable after) (w x both.0) both.1))
+      | inl next ↦ or_left (begins_in first nullable after) (p x && all_in nullable after) next
+      | inr left ↦ (
+          let both = and_parts (marked marks x) (all_in nullable after) left in
+          or_right (begins_in first nullable after) (p x && all_in nullable after) (and_from (p x) (all_in nullable after) (w x both.0) both.1))
     ]

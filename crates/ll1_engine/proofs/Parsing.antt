@@ -57,7 +57,6 @@ none_first [] e = refl
 none_first (x ∷ ts) e = absurd (cc)
 
 module _ (n rows_count : ℕ) (g : List Row) (good : IsGood g) (fits : FitsIn n rows_count g) (tokens : List ℕ) (known : Known n g tokens) where
-
   pub under_way_start : (stack : List ℕ) → stack ≡ 0 ∷ [] → IsUnderWay n g tokens 0 [] stack
   under_way_start stack e =
       subst (IsUnderWay n g tokens 0 []) (sym e) (record { within = omega arith; below = (fits.start, tt); state = State-start g tokens })
@@ -82,7 +81,7 @@ module _ (n rows_count : ℕ) (g : List Row) (good : IsGood g) (fits : FitsIn n 
     pub stop_at_symbol : (x : ℕ) (xs : List ℕ) → stack ≡ x ∷ xs → ¬ IsToken g x → Predicts g x (first_or (drop place tokens) None) None → StopsAt g tokens place
     stop_at_symbol x xs e inner p =
         stops (λ ts f s. stuck_choice g good x xs ts inner (λ t us i. token_next ts t us f i) (subst (λ (z : Option ℕ). Predicts g x z None) (sym f) p)
-          (subst (λ (zs : List ℕ). Rattle.ll1_engine.proofs.Begins.Follows g zs) e w.state.follows) (subst (λ (zs : List ℕ). Spans g zs ts) e s))
+        (subst (λ (zs : List ℕ). Rattle.ll1_engine.proofs.Begins.Follows g zs) e w.state.follows) (subst (λ (zs : List ℕ). Spans g zs ts) e s))
       where
         token_next : (ts : List ℕ) (t : ℕ) (us : List ℕ) → first_or ts None ≡ first_or (drop place tokens) None → ts ≡ t ∷ us → IsToken g t
         token_next ts t us f i = let q = some_first (drop place tokens) t (sym f ∙ ap (λ (zs : List ℕ). first_or zs None) i) in (next_below t q.0 q.1).1
@@ -110,17 +109,20 @@ module _ (n rows_count : ℕ) (g : List Row) (good : IsGood g) (fits : FitsIn n 
         let same : get_or tokens place 0 ≡ x = (let i : get_or tokens place 0 ∷ drop (place + 1) tokens ≡ x ∷ q.0 = sym more ∙ q.1 in cc) in
         let front : take (place + 1) tokens ≡ take place tokens ++ x ∷ [] = take_more tokens place 0 lt ∙ ap (λ (z : ℕ). take place tokens ++ z ∷ []) same in
         let st : State g (take place tokens) (x ∷ drop (place + 1) tokens) rows (x ∷ xs) =
-          subst (λ (zs : List ℕ). State g (take place tokens) (x ∷ drop (place + 1) tokens) rows zs) e
-            (subst (λ (zs : List ℕ). State g (take place tokens) zs rows stack) (more ∙ ap (λ (z : ℕ). z ∷ drop (place + 1) tokens) same) w.state) in
+        subst (λ (zs : List ℕ). State g (take place tokens) (x ∷ drop (place + 1) tokens) rows zs) e
+        (subst (λ (zs : List ℕ). State g (take place tokens) zs rows stack) (more ∙ ap (λ (z : ℕ). z ∷ drop (place + 1) tokens) same) w.state) in
         let b : AllByRecursion (λ y. y < n) (x ∷ xs) = subst (AllByRecursion (λ y. y < n)) e w.below in
-        record { within = omega arith; below = b.1;
-          state = subst (λ (zs : List ℕ). State g zs (drop (place + 1) tokens) rows xs) (sym front) (State-take g (take place tokens) (drop (place + 1) tokens) rows xs x tok st) }
+        record {
+          within = omega arith;
+          below = b.1;
+          state = subst (λ (zs : List ℕ). State g zs (drop (place + 1) tokens) rows xs) (sym front) (State-take g (take place tokens) (drop (place + 1) tokens) rows xs x tok st);
+        }
       where
         within_of : (us : List ℕ) → drop place tokens ≡ x ∷ us → place < length tokens
         within_of us i = elim (Rattle.std.proofs.lemmas.Bool.cases_lt place (length tokens)) [
-            inl lt ↦ lt
+          | inl lt ↦ lt
           | inr ge ↦ absurd (let z : drop place tokens ≡ [] = drop_all place tokens ge in let j : x ∷ us ≡ [] = sym i ∙ z in cc)
-          ]
+        ]
 
     -- the predicted row in place of its symbol
     pub under_way_row : (x : ℕ) (xs : List ℕ) (k : ℕ) (r : Row) → stack ≡ x ∷ xs → Predicts g x (first_or (drop place tokens) None) (Some k) → IsRow g k r → (stack' : List ℕ) → stack' ≡ r.right ++ xs → IsUnderWay n g tokens place (rows ++ k ∷ []) stack'
@@ -131,13 +133,15 @@ module _ (n rows_count : ℕ) (g : List Row) (good : IsGood g) (fits : FitsIn n 
         let st : State g (take place tokens) (drop place tokens) rows (r.left ∷ xs) = subst (λ (zs : List ℕ). State g (take place tokens) (drop place tokens) rows zs) (e ∙ ap (λ (z : ℕ). z ∷ xs) (sym left)) w.state in
         let b : AllByRecursion (λ y. y < n) (x ∷ xs) = subst (AllByRecursion (λ y. y < n)) e w.below in
         subst (IsUnderWay n g tokens place (rows ++ k ∷ [])) (sym e') (record {
-          within = w.within; below = below_append n r.right xs (fits.below k r h).right b.1;
-          state = State-expand g good (take place tokens) (drop place tokens) rows xs k r h (λ t us i. (next_below t us i).1) (subst (λ (z : ℕ). Predicts g z (first_or (drop place tokens) None) (Some k)) (sym left) p) st })
+          within = w.within;
+          below = below_append n r.right xs (fits.below k r h).right b.1;
+          state = State-expand g good (take place tokens) (drop place tokens) rows xs k r h (λ t us i. (next_below t us i).1) (subst (λ (z : ℕ). Predicts g z (first_or (drop place tokens) None) (Some k)) (sym left) p) st;
+        })
 
     finished : stack ≡ [] → length tokens ≤ place → State g tokens [] rows []
     finished e ge =
         subst (λ (zs : List ℕ). State g tokens [] rows zs) e
-          (subst (λ (zs : List ℕ). State g tokens zs rows stack) (drop_all place tokens ge) (subst (λ (zs : List ℕ). State g zs (drop place tokens) rows stack) (take_all place tokens ge) w.state))
+        (subst (λ (zs : List ℕ). State g tokens zs rows stack) (drop_all place tokens ge) (subst (λ (zs : List ℕ). State g zs (drop place tokens) rows stack) (take_all place tokens ge) w.state))
 
     pub tree_at_end : stack ≡ [] → length tokens ≤ place → IsTreeOf g rows tokens
     tree_at_end e ge = tree_found g tokens rows (tokens_known n g tokens known) (finished e ge)

@@ -19,23 +19,23 @@ PicksBelow-none g marks x = λ k r lt h e m. absurd (omega arith)
 pub PicksBelow-skip : (g : List Row) (marks : List Bool) (n x : ℕ) (c : Option ℕ) → get_or marks n false ≡ false → PicksBelow g marks n x c → PicksBelow g marks (n + 1) x c
 PicksBelow-skip g marks n x None e p = λ k r lt h l m.
     elim (cases_lt k n) [
-      inl less ↦ p k r less h l m
-    | inr more ↦ (let same : k ≡ n = omega arith in false≢true (sym e ∙ subst (λ (z : ℕ). get_or marks z false ≡ true) same m))
+      | inl less ↦ p k r less h l m
+      | inr more ↦ (let same : k ≡ n = omega arith in false≢true (sym e ∙ subst (λ (z : ℕ). get_or marks z false ≡ true) same m))
     ]
 PicksBelow-skip g marks n x (Some k) e p = p
 
 pub PicksBelow-set : (g : List Row) (marks : List Bool) (n x : ℕ) (choices : List (Option ℕ)) (r : Row) → r.left < length choices → IsRow g n r → Has marks n → PicksBelow g marks n x (get_or choices x None) → PicksBelow g marks (n + 1) x (get_or (set choices r.left (Some n)) x None)
 PicksBelow-set g marks n x choices r lt h m p =
     elim (cases_eq x r.left) [
-      inl same ↦ subst (PicksBelow g marks (n + 1) x) (sym (ap (λ (z : ℕ). get_or (set choices r.left (Some n)) z None) same ∙ get_or-set_same choices r.left (Some n) None lt)) (r, h, sym same, m)
-    | inr apart ↦ subst (PicksBelow g marks (n + 1) x) (sym (get_or-set_other choices r.left x (Some n) None apart)) (other (get_or choices x None) apart p)
+      | inl same ↦ subst (PicksBelow g marks (n + 1) x) (sym (ap (λ (z : ℕ). get_or (set choices r.left (Some n)) z None) same ∙ get_or-set_same choices r.left (Some n) None lt)) (r, h, sym same, m)
+      | inr apart ↦ subst (PicksBelow g marks (n + 1) x) (sym (get_or-set_other choices r.left x (Some n) None apart)) (other (get_or choices x None) apart p)
     ]
   where
     other : (c : Option ℕ) → x ≢ r.left → PicksBelow g marks n x c → PicksBelow g marks (n + 1) x c
     other None apart q = λ k s lt' i l m'.
         elim (cases_lt k n) [
-          inl less ↦ q k s less i l m'
-        | inr more ↦ (let same : k ≡ n = omega arith in apart (sym l ∙ ap (λ (z : Row). z.left) (same_row g n s r (subst (λ (z : ℕ). IsRow g z s) same i) h)))
+          | inl less ↦ q k s less i l m'
+          | inr more ↦ (let same : k ≡ n = omega arith in apart (sym l ∙ ap (λ (z : Row). z.left) (same_row g n s r (subst (λ (z : ℕ). IsRow g z s) same i) h)))
         ]
     other (Some k) apart q = q
 

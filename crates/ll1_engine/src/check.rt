@@ -12,7 +12,6 @@ use crate::checked::Checked;
 use crate::fault::{Break, CheckFault, TableFault};
 use crate::grammar::{Grammar, Row, Symbol, Token};
 use crate::survey::{Sights, Survey, survey_of};
-
 use std::alloc::Global;
 
 /// Whether row `j` is another row of the symbol of row `k`.

@@ -9,7 +9,6 @@ ghost use Rattle.ll1_engine.specs.Prediction.{PicksFirst, PicksNullable, Predict
 
 use crate::grammar::{Row, Rows, Symbol, Token, copied};
 use crate::survey::{Sights, Survey};
-
 use sqlite_items::Items;
 use std::alloc::{AllocError, Global};
 use std::marker::Model;

@@ -9,7 +9,6 @@ ghost use Rattle.ll1_engine.specs.Parse.{first_or, IsTreeOf, StopsAt};
 use crate::checked::Checked;
 use crate::fault::{ParseFault, Stop};
 use crate::grammar::{Symbol, Token};
-
 use sqlite_items::Items;
 use std::alloc::{AllocError, Global};
 use std::marker::Model;
@@ -101,8 +100,7 @@ pub fn parse<const S: usize, const R: usize>(
         let Some(row) = checked.predict(symbol, next) else {
             return Err(ParseFault::Stop(Stop { at }));
         };
-        rows.push(row)
-            .map_err(|_| ParseFault::Memory(AllocError))?;
+        rows.push(row).map_err(|_| ParseFault::Memory(AllocError))?;
         let right = table[row].right.as_slice();
         stack.push_all(right).map_err(ParseFault::Memory)?;
     }

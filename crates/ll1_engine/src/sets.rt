@@ -130,7 +130,13 @@ pub(crate) fn spread_first(rows: &[Row], nullable: &[bool], marks: &mut [bool])
 
 /// Whether the symbols after one in a row of `left` begin with one in `first`, or are all nullable and the left
 /// is marked.
-fn follows(first: &[bool], nullable: &[bool], marks: &[bool], left: Symbol, after: &[Symbol]) -> bool
+fn follows(
+    first: &[bool],
+    nullable: &[bool],
+    marks: &[bool],
+    left: Symbol,
+    after: &[Symbol],
+) -> bool
     requires left { left < length marks.now }
     requires first { AllByRecursion (λ y. y < length first.now) after.now }
     requires nullable { AllByRecursion (λ y. y < length nullable.now) after.now }
@@ -140,7 +146,13 @@ fn follows(first: &[bool], nullable: &[bool], marks: &[bool], left: Symbol, afte
 }
 
 /// Marks the symbol at a place of the row where a marked one can follow it.
-fn widen_follow_at(row: &Row, i: usize, first: &[bool], nullable: &[bool], marks: &mut [bool]) -> bool
+fn widen_follow_at(
+    row: &Row,
+    i: usize,
+    first: &[bool],
+    nullable: &[bool],
+    marks: &mut [bool],
+) -> bool
     requires within { i < length row.now.right }
     requires below { RowIsBelow (length marks.old) row.now }
     requires first { length first.now ≡ length marks.old }

@@ -10,7 +10,6 @@ ghost use Rattle.ll1_engine.specs.Survey.{AreBelow, MarksTokens, MarksAlive, Mar
 use crate::checked::Choices;
 use crate::grammar::{Row, Symbol, Token};
 use crate::sets::{all_marked, begins, derivers, spread_first, spread_follow};
-
 use sqlite_items::Items;
 use std::alloc::{AllocError, Global};
 
@@ -82,7 +81,13 @@ fn nullable_marks(alloc: Global, size: usize, rows: &[Row]) -> Result<Vec<bool>,
 }
 
 /// The symbols that have the token in their FIRST.
-fn first_marks(alloc: Global, rows: &[Row], tokens: &[bool], nullable: &[bool], token: Token) -> Result<Vec<bool>, AllocError>
+fn first_marks(
+    alloc: Global,
+    rows: &[Row],
+    tokens: &[bool],
+    nullable: &[bool],
+    token: Token,
+) -> Result<Vec<bool>, AllocError>
     requires below { AreBelow (length tokens.now) rows.now }
     requires sizes { length nullable.now ≡ length tokens.now }
     requires tokens { MarksTokens (length tokens.now) rows.now tokens.now }
@@ -98,7 +103,12 @@ fn first_marks(alloc: Global, rows: &[Row], tokens: &[bool], nullable: &[bool], 
 }
 
 /// The symbols that have the token in their FOLLOW.
-fn follow_marks(alloc: Global, rows: &[Row], first: &[bool], nullable: &[bool]) -> Result<Vec<bool>, AllocError>
+fn follow_marks(
+    alloc: Global,
+    rows: &[Row],
+    first: &[bool],
+    nullable: &[bool],
+) -> Result<Vec<bool>, AllocError>
     requires below { AreBelow (length first.now) rows.now }
     requires sizes { length nullable.now ≡ length first.now }
     requires nullable { MarksNullable rows.now nullable.now }
@@ -124,7 +134,12 @@ fn empty_rows(alloc: Global, rows: &[Row], nullable: &[bool]) -> Result<Vec<bool
 }
 
 /// The rows that have the token of `first` in their FIRST.
-fn begun_rows(alloc: Global, rows: &[Row], first: &[bool], nullable: &[bool]) -> Result<Vec<bool>, AllocError>
+fn begun_rows(
+    alloc: Global,
+    rows: &[Row],
+    first: &[bool],
+    nullable: &[bool],
+) -> Result<Vec<bool>, AllocError>
     requires below { AreBelow (length first.now) rows.now }
     requires sizes { length nullable.now ≡ length first.now }
     ensures size { IfOk result (λ marks. length marks.items ≡ length rows.now) }
@@ -138,7 +153,12 @@ fn begun_rows(alloc: Global, rows: &[Row], first: &[bool], nullable: &[bool]) ->
 }
 
 /// For each symbol a marked row of it, or none.
-fn picks(alloc: Global, size: usize, rows: &[Row], marks: &[bool]) -> Result<Vec<Option<usize>>, AllocError>
+fn picks(
+    alloc: Global,
+    size: usize,
+    rows: &[Row],
+    marks: &[bool],
+) -> Result<Vec<Option<usize>>, AllocError>
     requires below { AreBelow size rows.now }
     requires sizes { length marks.now ≡ length rows.now }
     ensures size { IfOk result (λ choices. length choices.items ≡ size) }
@@ -154,7 +174,13 @@ fn picks(alloc: Global, size: usize, rows: &[Row], marks: &[bool]) -> Result<Vec
 }
 
 /// What is found out for one token.
-fn see_token(alloc: Global, rows: &[Row], tokens: &[bool], nullable: &[bool], token: Token) -> Result<Sight, AllocError>
+fn see_token(
+    alloc: Global,
+    rows: &[Row],
+    tokens: &[bool],
+    nullable: &[bool],
+    token: Token,
+) -> Result<Sight, AllocError>
     requires below { AreBelow (length tokens.now) rows.now }
     requires sizes { length nullable.now ≡ length tokens.now }
     requires tokens { MarksTokens (length tokens.now) rows.now tokens.now }
@@ -174,7 +200,12 @@ fn see_token(alloc: Global, rows: &[Row], tokens: &[bool], nullable: &[bool], to
 }
 
 /// What is found out for each token.
-fn see_tokens(alloc: Global, rows: &[Row], tokens: &[bool], nullable: &[bool]) -> Result<Sights, AllocError>
+fn see_tokens(
+    alloc: Global,
+    rows: &[Row],
+    tokens: &[bool],
+    nullable: &[bool],
+) -> Result<Sights, AllocError>
     requires below { AreBelow (length tokens.now) rows.now }
     requires sizes { length nullable.now ≡ length tokens.now }
     requires tokens { MarksTokens (length tokens.now) rows.now tokens.now }

@@ -12,4 +12,4 @@ returns-then-not-index c = λ r h.
 pub returns : goal.returns
 returns c = λ r h.
     nullable_match c.args.rows.now c.args.k r c.args.seen.now.empty.items c.other_marked.result c.requires.seen.empty_marks h (sym (get_or_read c.args.seen.now.empty.items c.args.k c.index.result.now (let e = c.requires.seen.empty_count in omega arith) c.index.ensures false) ∙ c.if-not-index.false)
-      (subst (λ (m : List Bool). IsTrue c.other_marked.result ↔ OtherMarked c.args.rows.now c.args.k r m) c.as_slice.ensures.value (c.other_marked.ensures r h))
+    (subst (λ (m : List Bool). IsTrue c.other_marked.result ↔ OtherMarked c.args.rows.now c.args.k r m) c.as_slice.ensures.value (c.other_marked.ensures r h))

@@ -15,10 +15,10 @@ returns-in-Some c =
 pub loop-row-preserved : goal.loop-row-preserved
 loop-row-preserved c = λ j s a lt h.
     elim (cases_lt j c.loop-row.row) [
-      inl less ↦ c.loop-row.invariant j s a less h
-    | inr more ↦ (
-      let same : c.loop-row.row ≡ j = omega arith in
-      subst (λ (z : ℕ). Meets c.args.rows.now z s a) same (c.in_default.ensures s (subst (λ (z : ℕ). IsRow c.args.rows.now z s) (sym same) h) a))
+      | inl less ↦ c.loop-row.invariant j s a less h
+      | inr more ↦ (
+          let same : c.loop-row.row ≡ j = omega arith in
+          subst (λ (z : ℕ). Meets c.args.rows.now z s a) same (c.in_default.ensures s (subst (λ (z : ℕ). IsRow c.args.rows.now z s) (sym same) h) a))
     ]
 
 pub returns : goal.returns

@@ -11,4 +11,4 @@ returns c = λ r h.
     let parts : r.right ≡ token ∷ drop 1 c.as_slice-right.result.now = sym right ∙ first_of_right c.as_slice-right.result.now (sym c.is_empty.ensures ∙ c.if-is_empty.false) in
     let below : token < length c.args.tokens.now = head_below (length c.args.tokens.now) r.right token (drop 1 c.as_slice-right.result.now) parts (c.requires.below c.args.k r h).right in
     may_rank_match c.args.rows.now c.args.k r token (drop 1 c.as_slice-right.result.now) c.has_plain_twin.result parts ((c.requires.tokens token below).0 c.if-not-tokens-token.false)
-      (c.stands_only_first_in.ensures.0 c.if-not-stands_only_first_in.false) (c.has_plain_twin.ensures r h)
+    (c.stands_only_first_in.ensures.0 c.if-not-stands_only_first_in.false) (c.has_plain_twin.ensures r h)

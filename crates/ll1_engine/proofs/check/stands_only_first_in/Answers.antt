@@ -11,11 +11,12 @@ pub returns-then-not-lacks_from : goal.returns-then-not-lacks_from
 returns-then-not-lacks_from c =
     let x = c.index-rows-j.result in
     let row : IsRow c.args.rows.now c.loop-j.j x = slice_get_read c.args.rows.now (length c.args.rows.now) c.loop-j.j x refl (omega arith) c.index-rows-j.is in
-    let right : c.as_slice.result.now ≡ x.right = c.as_slice.ensures ∙ ap (λ (z : Row). z.right) (sym c.index-rows-j.is) in
-    (λ f. absurd (false≢true f),
-     λ once. absurd (false≢true (sym c.if-not-lacks_from.true ∙ c.lacks_from.ensures.1
-       (subst (λ (zs : List ℕ). (i : ℕ) → c.places_free.result ≤ i → i < length zs → get_or zs i 0 ≡ c.args.token → ⊥) (sym right)
-         (subst (λ (n : ℕ). (i : ℕ) → n ≤ i → i < length x.right → get_or x.right i 0 ≡ c.args.token → ⊥) (sym c.places_free.ensures) (lacks_from_stands c.args.rows.now c.args.token c.args.k once c.loop-j.j x row))))))
+    let right : c.as_slice.result.now ≡ x.right = c.as_slice.ensures ∙ ap (λ (z : Row). z.right) (sym c.index-rows-j.is) in (
+      λ f. absurd (false≢true f),
+      λ once. absurd (false≢true (sym c.if-not-lacks_from.true ∙ c.lacks_from.ensures.1
+          (subst (λ (zs : List ℕ). (i : ℕ) → c.places_free.result ≤ i → i < length zs → get_or zs i 0 ≡ c.args.token → ⊥) (sym right)
+          (subst (λ (n : ℕ). (i : ℕ) → n ≤ i → i < length x.right → get_or x.right i 0 ≡ c.args.token → ⊥) (sym c.places_free.ensures) (lacks_from_stands c.args.rows.now c.args.token c.args.k once c.loop-j.j x row))))),
+    )
 
 pub loop-j-preserved : goal.loop-j-preserved
 loop-j-preserved c = λ j s lt h.
@@ -23,14 +24,14 @@ loop-j-preserved c = λ j s lt h.
     let row : IsRow c.args.rows.now c.loop-j.j x = slice_get_read c.args.rows.now (length c.args.rows.now) c.loop-j.j x refl (omega arith) c.index-rows-j.is in
     let right : c.as_slice.result.now ≡ x.right = c.as_slice.ensures ∙ ap (λ (z : Row). z.right) (sym c.index-rows-j.is) in
     let here : LacksPast c.args.token c.args.k c.loop-j.j x =
-      subst (λ (n : ℕ). (i : ℕ) → n ≤ i → i < length x.right → get_or x.right i 0 ≡ c.args.token → ⊥) c.places_free.ensures
-        (subst (λ (zs : List ℕ). (i : ℕ) → c.places_free.result ≤ i → i < length zs → get_or zs i 0 ≡ c.args.token → ⊥) right (c.lacks_from.ensures.0 c.if-not-lacks_from.false)) in
+    subst (λ (n : ℕ). (i : ℕ) → n ≤ i → i < length x.right → get_or x.right i 0 ≡ c.args.token → ⊥) c.places_free.ensures
+    (subst (λ (zs : List ℕ). (i : ℕ) → c.places_free.result ≤ i → i < length zs → get_or zs i 0 ≡ c.args.token → ⊥) right (c.lacks_from.ensures.0 c.if-not-lacks_from.false)) in
     elim (cases_lt j c.loop-j.j) [
-      inl less ↦ c.loop-j.invariant j s less h
-    | inr more ↦ (
-      let same : c.loop-j.j ≡ j = omega arith in
-      let one : x ≡ s = same_row c.args.rows.now j x s (subst (λ (z : ℕ). IsRow c.args.rows.now z x) same row) h in
-      subst (LacksPast c.args.token c.args.k j) one (subst (λ (z : ℕ). LacksPast c.args.token c.args.k z x) same here))
+      | inl less ↦ c.loop-j.invariant j s less h
+      | inr more ↦ (
+          let same : c.loop-j.j ≡ j = omega arith in
+          let one : x ≡ s = same_row c.args.rows.now j x s (subst (λ (z : ℕ). IsRow c.args.rows.now z x) same row) h in
+          subst (LacksPast c.args.token c.args.k j) one (subst (λ (z : ℕ). LacksPast c.args.token c.args.k z x) same here))
     ]
 
 pub returns : goal.returns

@@ -12,7 +12,7 @@ loop-row-preserved c =
     record {
       widens = Widens-then c.args.marks.now c.loop-row.marks c.widen_follow_row-more.new.marks c.loop-row.added c.widen_follow_row-more.result c.loop-row.invariant.widens c.widen_follow_row-more.ensures.widens;
       closed = closed_more (λ m r. FollowClosed (marked c.args.first.now) (marked c.args.nullable.now) (marked m) r) c.args.rows.now c.loop-row.row-index c.row-item.result c.loop-row.marks c.widen_follow_row-more.new.marks c.loop-row.added c.widen_follow_row-more.result here
-        c.widen_follow_row-more.ensures.widens c.loop-row.invariant.closed c.widen_follow_row-more.ensures.closed;
+          c.widen_follow_row-more.ensures.widens c.loop-row.invariant.closed c.widen_follow_row-more.ensures.closed;
       least = λ p all within'. c.widen_follow_row-more.ensures.least p (all c.loop-row.row-index c.row-item.result here) (c.loop-row.invariant.least p all within');
     }
 

@@ -16,6 +16,6 @@ returns-clause-exact c =
     let lent : ◌≡◌ {A = List Bool} c.as_mut_slice.result.now old = c.as_mut_slice.ensures.value ∙ ap (λ (zs : List Bool). set zs t b) (c.in_ok-marks.ensures.items_if_clones_equal (λ y h. h)) in
     let new = c.spread_first.new.marks in
     subst (MarksFirst g t) (sym (written c.in_ok-marks.marks.len new _ (c.spread_first.ensures.size ∙ c.as_mut_slice.ensures.len)))
-      (first_exact g t c.args.nullable.now old new c.requires.nullable (first_seed g n t b (c.requires.tokens t c.requires.token)) (first_start g n t b c.requires.token (c.requires.tokens t c.requires.token))
-        (subst (λ (zs : List Bool). Within zs (marked new)) lent c.spread_first.ensures.grows) c.spread_first.ensures.closed
-        (subst (λ (zs : List Bool). (p : ℕ → Bool) → ((k : ℕ) (r : Row) → IsRow g k r → FirstClosedAt (marked c.args.nullable.now) p r) → Within zs p → Within new p) lent c.spread_first.ensures.least))
+    (first_exact g t c.args.nullable.now old new c.requires.nullable (first_seed g n t b (c.requires.tokens t c.requires.token)) (first_start g n t b c.requires.token (c.requires.tokens t c.requires.token))
+    (subst (λ (zs : List Bool). Within zs (marked new)) lent c.spread_first.ensures.grows) c.spread_first.ensures.closed
+    (subst (λ (zs : List Bool). (p : ℕ → Bool) → ((k : ℕ) (r : Row) → IsRow g k r → FirstClosedAt (marked c.args.nullable.now) p r) → Within zs p → Within new p) lent c.spread_first.ensures.least))

@@ -19,7 +19,7 @@ returns c =
       empty_marks = empty;
       nullable_count = ap (length {A = Option ℕ}) c.from_vec.ensures ∙ c.in_ok-choices.ensures.size;
       nullable_rows = λ x lt. subst (λ (zs : List (Option ℕ)). PicksNullable g x (get_or zs x None)) (sym c.from_vec.ensures)
-        (nullable_picked g c.in_ok-empty.empty.items x (get_or c.in_ok-choices.choices.items x None) empty
+          (nullable_picked g c.in_ok-empty.empty.items x (get_or c.in_ok-choices.choices.items x None) empty
           (subst (λ (m : List Bool). PicksMarked g m x (get_or c.in_ok-choices.choices.items x None)) c.as_slice-3.ensures.value (c.in_ok-choices.ensures.exact x lt)));
       sights = subst (λ (n : ℕ). AreSights n n g c.in_ok-sights.sights.begun.items c.in_ok-sights.sights.follows.items c.in_ok-sights.sights.firsts.items) size-4 c.in_ok-sights.ensures;
     }
