@@ -1,6 +1,7 @@
 //! A table that meets the five conditions, with the prediction that a parse reads.
 
 ghost use Rattle.std.specs.Prelude.{◌≡◌, ℕ, ◌<◌, ◌↔◌, ◌++◌, ◌∷◌, [], List, Some, None, length, slice_get, slice_index_or, IsTrue, IfOk, OnOk, OnErr};
+ghost use Rattle.std.specs.List.{AllByRecursion};
 ghost use Rattle.std.specs.Option.{ForSome};
 ghost use Rattle.ll1_engine.specs.Table.{IsToken, FitsIn};
 ghost use Rattle.ll1_engine.specs.Conditions.{IsGood};
@@ -72,6 +73,28 @@ impl<const S: usize, const R: usize> Checked<S, R> {
         ensures { IsTrue result ↔ IsToken self.now symbol }
     {
         self.tokens[symbol]
+    }
+
+    /// Whether each of the symbols is a token, as a parse asks.
+    pub fn are_tokens(&self, symbols: &[Symbol]) -> bool
+        ensures { IsTrue result ↔ AllByRecursion (λ t. (t < S) × IsToken self.now t) symbols.now }
+    {
+        for symbol in symbols {
+            if !self.knows(*symbol) {
+                return false;
+            }
+        }
+        true
+    }
+
+    /// Whether the number is that of a token.
+    fn knows(&self, symbol: Symbol) -> bool
+        ensures { IsTrue result ↔ ((symbol < S) × IsToken self.now symbol) }
+    {
+        if symbol >= S {
+            return false;
+        }
+        self.is_token(symbol)
     }
 
     /// The rows, as they were checked.

@@ -16,3 +16,6 @@ pub use checked::Checked;
 pub use fault::{Break, CheckFault, ParseFault, Stop, TableFault};
 pub use grammar::{Grammar, Row, Rows, Symbol, Symbols, Token};
 pub use parser::{Tree, parse};
+
+#[cfg(test)]
+mod tests;

@@ -105,7 +105,8 @@ pub fn parse<const S: usize, const R: usize>(
         stack.push_all(right).map_err(ParseFault::Memory)?;
     }
     if at < tokens.len() {
-        return Err(ParseFault::Stop(Stop { at }));
+        let left_over = Stop { at };
+        return Err(ParseFault::Stop(left_over));
     }
     Ok(Tree::from_vec(rows))
 }

@@ -1,4 +1,4 @@
-use Rattle.std.proofs.Common.{List, Bool, Option, ℕ, None, sym, ap, subst, get_or, ◌∙◌, length}
+use Rattle.std.proofs.Common.{List, Bool, None, sym, ap, subst, get_or, ◌∙◌, length}
 use Rattle.ll1_engine.specs.Survey.{MarksFirst, PicksMarked}
 use Rattle.ll1_engine.proofs.SightLaws.{IsSight-same, begun_told, first_picked}
 use Rattle.ll1_engine.proofs.survey.see_token.Goals as goal
