@@ -52,38 +52,47 @@ fn nested_table(alloc: Global) -> Result<Checked<3, 2>> {
     Ok(check_table(alloc, &grammar)?)
 }
 
-fn time<const S: usize, const R: usize>(
+/// The nanoseconds of one parse, or none where the tokens are not those of the table.
+fn nanoseconds<const S: usize, const R: usize>(
     rt: &HostRuntime,
-    name: &str,
     checked: &Checked<S, R>,
     tokens: &[usize],
-) -> Result<()> {
+) -> Result<Option<u128>> {
     if !checked.are_tokens(tokens) {
-        return Ok(());
+        return Ok(None);
     }
     let start = Instant::now(rt)?;
-    let tree = parse(rt.alloc(), checked, tokens)?;
-    let spent = start.elapsed(rt)?;
-    let picoseconds = spent.as_nanos().saturating_mul(1000);
-    let count = tokens.len();
-    if count > 0 {
-        let each = picoseconds / count as u128;
-        let rows = tree.len();
-        println!(rt; "{name} {count} tokens, {rows} rows: {each} ps per token")?;
+    let _tree = parse(rt.alloc(), checked, tokens)?;
+    Ok(Some(start.elapsed(rt)?.as_nanos()))
+}
+
+fn report(rt: &HostRuntime, name: &str, count: usize, spent: Option<u128>) -> Result<()> {
+    if let Some(spent) = spent {
+        println!(rt; "{name} {count} tokens: {spent} ns")?;
     }
     Ok(())
 }
 
+fn flat(rt: &HostRuntime, count: usize) -> Result<()> {
+    let table = flat_table(rt.alloc())?;
+    let tokens = vec![in rt.alloc(); 1usize; count]?;
+    let spent = nanoseconds(rt, &table, tokens.as_slice())?;
+    report(rt, "flat", count, spent)
+}
+
+fn nested(rt: &HostRuntime, count: usize) -> Result<()> {
+    let table = nested_table(rt.alloc())?;
+    let mut tokens = vec![in rt.alloc(); 1usize; count / 2]?;
+    let closing = vec![in rt.alloc(); 2usize; count / 2]?;
+    tokens.extend_from_slice(closing.as_slice())?;
+    let spent = nanoseconds(rt, &table, tokens.as_slice())?;
+    report(rt, "nested", count, spent)
+}
+
 fn main(rt: HostRuntime) -> Result<()> {
-    let flat = flat_table(rt.alloc())?;
-    let nested = nested_table(rt.alloc())?;
     for count in [10_000usize, 100_000, 1_000_000] {
-        let tokens = vec![in rt.alloc(); 1usize; count]?;
-        time(&rt, "flat", &flat, tokens.as_slice())?;
-        let mut tokens = vec![in rt.alloc(); 1usize; count / 2]?;
-        let closing = vec![in rt.alloc(); 2usize; count / 2]?;
-        tokens.extend_from_slice(closing.as_slice())?;
-        time(&rt, "nested", &nested, tokens.as_slice())?;
+        flat(&rt, count)?;
+        nested(&rt, count)?;
     }
     Ok(())
 }
@@ -91,4 +100,4 @@ MAIN
 
 cd "$work/crates/ll1_bench"
 ulimit -s 256
-rt run
+rt run | awk '/ tokens: / { printf "%s: %.1f ns per token\n", $0, $4 / $2; next } { print > "/dev/stderr" }'
