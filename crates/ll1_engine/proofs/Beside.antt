@@ -1,0 +1,110 @@
+-- Lists of trees side by side: what they derive, how they split, and which the ranks allow.
+use Rattle.std.proofs.Common.{◌≡◌, ℕ, List, [], ◌∷◌, ◌++◌, Option, refl, sym, ap, ◌∙◌, subst, append_assoc}
+use Rattle.std.proofs.lemmas.Option.{same_Some}
+use Rattle.ll1_engine.specs.declared.grammar.Row.{Row}
+use Rattle.ll1_engine.specs.Table.{IsRow}
+use Rattle.ll1_engine.specs.Trees.{Trees, End, Leaf, Node, roots, leaves, preorder, AreTrees}
+use Rattle.ll1_engine.specs.Parse.{first_or, TakesRank, RanksAllow}
+
+-- the trees of both lists
+abbrev pub beside : Trees → Trees → Trees
+beside End h = h
+beside (Leaf x f) h = Leaf x (beside f h)
+beside (Node k r c f) h = Node k r c (beside f h)
+
+pub roots-beside : (f h : Trees) → roots (beside f h) ≡ roots f ++ roots h
+roots-beside End h = refl
+roots-beside (Leaf x f) h = ap (λ (ys : List ℕ). x ∷ ys) (roots-beside f h)
+roots-beside (Node k r c f) h = ap (λ (ys : List ℕ). r.left ∷ ys) (roots-beside f h)
+
+pub leaves-beside : (f h : Trees) → leaves (beside f h) ≡ leaves f ++ leaves h
+leaves-beside End h = refl
+leaves-beside (Leaf x f) h = ap (λ (ys : List ℕ). x ∷ ys) (leaves-beside f h)
+leaves-beside (Node k r c f) h = ap (λ (ys : List ℕ). leaves c ++ ys) (leaves-beside f h) ∙ sym (append_assoc (leaves c) (leaves f) (leaves h))
+
+pub preorder-beside : (f h : Trees) → preorder (beside f h) ≡ preorder f ++ preorder h
+preorder-beside End h = refl
+preorder-beside (Leaf x f) h = preorder-beside f h
+preorder-beside (Node k r c f) h = ap (λ (ys : List ℕ). k ∷ (preorder c ++ ys)) (preorder-beside f h) ∙ ap (λ (ys : List ℕ). k ∷ ys) (sym (append_assoc (preorder c) (preorder f) (preorder h)))
+
+pub AreTrees-beside : (g : List Row) (f h : Trees) → AreTrees g f → AreTrees g h → AreTrees g (beside f h)
+AreTrees-beside g End h a b = b
+AreTrees-beside g (Leaf x f) h a b = AreTrees-beside g f h a b
+AreTrees-beside g (Node k r c f) h a b = (a.0, a.1, a.2, AreTrees-beside g f h a.3 b)
+
+pub first_or-append : (xs ys : List ℕ) (next : Option ℕ) → first_or (xs ++ ys) next ≡ first_or xs (first_or ys next)
+first_or-append [] ys next = refl
+first_or-append (x ∷ xs) ys next = refl
+
+-- what stands before the trees of a node's list, when more trees stand after them
+pub next_beside : (cs fs hs : List ℕ) (next : Option ℕ) → first_or (cs ++ (fs ++ hs)) next ≡ first_or (cs ++ fs) (first_or hs next)
+next_beside cs fs hs next = ap (λ (ys : List ℕ). first_or ys next) (sym (append_assoc cs fs hs)) ∙ first_or-append (cs ++ fs) hs next
+
+pub RanksAllow-beside : (g : List Row) (f h : Trees) (next : Option ℕ) → RanksAllow g f (first_or (leaves h) next) → RanksAllow g h next → RanksAllow g (beside f h) next
+RanksAllow-beside g End h next a b = b
+RanksAllow-beside g (Leaf x f) h next a b = RanksAllow-beside g f h next a b
+RanksAllow-beside g (Node k r c f) h next a b =
+    let e : leaves (beside f h) ≡ leaves f ++ leaves h = leaves-beside f h in (
+      subst (λ (n : Option ℕ). TakesRank g k r n) (sym (ap (λ (ys : List ℕ). first_or (leaves c ++ ys) next) e ∙ next_beside (leaves c) (leaves f) (leaves h) next)) a.0,
+      subst (λ (n : Option ℕ). RanksAllow g c n) (sym (ap (λ (ys : List ℕ). first_or ys next) e ∙ first_or-append (leaves f) (leaves h) next)) a.1,
+      RanksAllow-beside g f h next a.2 b,
+    )
+
+pub RanksAllow-parts : (g : List Row) (f h : Trees) (next : Option ℕ) → RanksAllow g (beside f h) next → RanksAllow g f (first_or (leaves h) next) × RanksAllow g h next
+RanksAllow-parts g End h next a = (tt, a)
+RanksAllow-parts g (Leaf x f) h next a = RanksAllow-parts g f h next a
+RanksAllow-parts g (Node k r c f) h next a =
+    let e : leaves (beside f h) ≡ leaves f ++ leaves h = leaves-beside f h in
+    let rest = RanksAllow-parts g f h next a.2 in (
+      (
+        subst (λ (n : Option ℕ). TakesRank g k r n) (ap (λ (ys : List ℕ). first_or (leaves c ++ ys) next) e ∙ next_beside (leaves c) (leaves f) (leaves h) next) a.0,
+        subst (λ (n : Option ℕ). RanksAllow g c n) (ap (λ (ys : List ℕ). first_or ys next) e ∙ first_or-append (leaves f) (leaves h) next) a.1,
+        rest.0,
+      ),
+      rest.1,
+    )
+
+-- trees whose roots are xs and then ys are trees with the roots xs beside trees with the roots ys
+pub record Parts (g : List Row) (f : Trees) (xs ys : List ℕ) : Type 0 where
+  pub front : Trees
+  pub back : Trees
+  pub whole : beside front back ≡ f
+  pub front_valid : AreTrees g front
+  pub back_valid : AreTrees g back
+  pub front_top : roots front ≡ xs
+  pub back_top : roots back ≡ ys
+
+pub parts : (g : List Row) (xs ys : List ℕ) (f : Trees) → AreTrees g f → roots f ≡ xs ++ ys → Parts g f xs ys
+parts g [] ys f v e = record { front = End; back = f; whole = refl; front_valid = tt; back_valid = v; front_top = refl; back_top = e }
+parts g (x ∷ xs) ys End v e = absurd (cc)
+parts g (x ∷ xs) ys (Leaf y f) v e =
+    let p = parts g xs ys f v (cc) in
+    record {
+      front = Leaf y p.front;
+      back = p.back;
+      whole = ap (λ (t : Trees). Leaf y t) p.whole;
+      front_valid = p.front_valid;
+      back_valid = p.back_valid;
+      front_top = (let i : y ≡ x = cc in let k : roots p.front ≡ xs = p.front_top in cc);
+      back_top = p.back_top;
+    }
+parts g (x ∷ xs) ys (Node k r c f) v e =
+    let p = parts g xs ys f v.3 (cc) in
+    record {
+      front = Node k r c p.front;
+      back = p.back;
+      whole = ap (λ (t : Trees). Node k r c t) p.whole;
+      front_valid = (v.0, v.1, v.2, p.front_valid);
+      back_valid = p.back_valid;
+      front_top = (let i : r.left ≡ x = cc in let k : roots p.front ≡ xs = p.front_top in cc);
+      back_top = p.back_top;
+    }
+
+-- a row is determined by its place
+pub same_row : (g : List Row) (k : ℕ) (r s : Row) → IsRow g k r → IsRow g k s → r ≡ s
+same_row g k r s a b = same_Some r s (sym a ∙ b)
+
+-- two lists that make the empty list are empty
+pub no_parts : (xs ys : List ℕ) → xs ++ ys ≡ [] → (xs ≡ []) × (ys ≡ [])
+no_parts [] ys e = (refl, e)
+no_parts (x ∷ xs) ys e = absurd (cc)

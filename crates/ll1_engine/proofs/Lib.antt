@@ -1,0 +1,12 @@
+pub mod Beside
+pub mod Begins
+pub mod Swap
+pub mod Choice
+pub mod Steps
+pub mod Stops
+pub mod Parsing
+pub mod MarkLaws
+pub mod PickLaws
+pub mod SetLaws
+pub mod SightLaws
+pub mod CheckLaws

@@ -1,0 +1,12 @@
+use Rattle.std.proofs.Common.{rules}
+use Rattle.ll1_engine.proofs.MarkLaws.{AllDerive-seed, closed_derived}
+use Rattle.ll1_engine.proofs.sets.derivers.Goals as goal
+
+pub loop-init : goal.loop-init
+loop-init c = record { size = search rules; grows = λ x h. h; derives = AllDerive-seed c.args.rows.now c.args.marks.now }
+
+pub returns-clause-exact : goal.returns-clause-exact
+returns-clause-exact c = λ x. (
+  c.widen.ensures.derives c.args.marks.now c.loop.invariant.derives x,
+  closed_derived c.args.rows.now c.args.marks.now c.widen.new.marks (λ y h. c.widen.ensures.widens.grows y (c.loop.invariant.grows y h)) (c.widen.ensures.closed c.loop-test.false) x,
+)

@@ -1,0 +1,51 @@
+//! What a table breaks, where tokens stop, and want of memory beside both.
+
+use std::alloc::AllocError;
+use thiserror::Error;
+
+/// A condition that a row can break, in the order in which they are named.
+#[derive(Clone, Copy, Debug, PartialEq, Eq)]
+pub enum Break {
+    /// The left symbol derives no list of tokens.
+    Barren,
+    /// The row has a rank above 0 that it may not have.
+    Rank,
+    /// The row and another row of its symbol derive the empty list.
+    Nullable,
+    /// A token is in FIRST of the row and of another row of its symbol.
+    First,
+    /// Another row of the symbol derives the empty list, and a token is in FIRST of the row and in FOLLOW of
+    /// the symbol.
+    Follow,
+}
+
+/// The first row that breaks a condition, and of its broken conditions the first.
+#[derive(Clone, Copy, Debug, PartialEq, Eq)]
+pub struct TableFault {
+    pub row: usize,
+    pub breaks: Break,
+}
+
+/// Why `check_table` gives no checked table.
+#[derive(Debug, Drop, Error)]
+pub enum CheckFault {
+    #[error("row {} breaks {:?}", .0.row, .0.breaks)]
+    Table(TableFault),
+    #[error("out of memory")]
+    Memory(AllocError),
+}
+
+/// The first token such that no derived list begins with the tokens up to it, or the number of tokens.
+#[derive(Clone, Copy, Debug, PartialEq, Eq)]
+pub struct Stop {
+    pub at: usize,
+}
+
+/// Why `parse` gives no tree.
+#[derive(Debug, Drop, Error)]
+pub enum ParseFault {
+    #[error("no tree goes on at token {}", .0.at)]
+    Stop(Stop),
+    #[error("out of memory")]
+    Memory(AllocError),
+}
