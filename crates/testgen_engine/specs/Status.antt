@@ -24,4 +24,4 @@ abbrev pub Ended : Option (List ℕ → Option (List ℕ)) → List (List ℕ) �
     → (Out → Option (List ℕ)) → (Out → Option (List ℕ)) → Result Status Stop → Type 0
 Ended files words before now old new result =
     MatchResult result (λ status. AddsText old new (Ends files words before now (status_of status)))
-      (λ _. IsCutShort files words before now old new)
+    (λ _. IsCutShort files words before now old new)

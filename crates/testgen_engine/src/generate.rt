@@ -174,7 +174,7 @@ fn tell_usage<D: Desk>(desk: &mut D) -> Result<Status, Stop>
 fn generate_from<D: Desk>(alloc: Global, name: &str, desk: &mut D) -> Result<Status, Stop>
     ensures ends { (words : List (List ℕ)) → AsksGen words name.now
         → Ended (D.files desk.old) words (D.read_faults desk.old) (D.read_faults desk.new)
-            (D.written desk.old) (D.written desk.new) result }
+        (D.written desk.old) (D.written desk.new) result }
     ensures asked { AsksFront (D.asked desk.old) (D.asked desk.new) (name.now ∷ []) }
     ensures write_fault { IsErrOf result Stop.WriteFault
         → Rose (D.write_faults desk.old) (D.write_faults desk.new) }

@@ -45,12 +45,12 @@ pub fn testgen<D: Desk>(alloc: Global, words: &[String], desk: &mut D) -> u8
     // The headline: what is printed is right.
     ensures headline { (result ≡ 0) ⊎ (result ≡ 3)
         → AddsText (D.written desk.old) (D.written desk.new)
-            (Finishes (D.files desk.old) (map string_bytes words.now) result) }
+        (Finishes (D.files desk.old) (map string_bytes words.now) result) }
 
     // Wrong words are told, and nothing is opened.
     ensures wrong_words { result ≡ 1
         → AddsText (D.written desk.old) (D.written desk.new)
-            (Misspells (map string_bytes words.now) result) }
+        (Misspells (map string_bytes words.now) result) }
     ensures only_wrong_words { AsksNothing (map string_bytes words.now)
         → (result ≡ 1) ⊎ (5 ≤ result) }
     ensures nothing_opened { AsksNothing (map string_bytes words.now)
@@ -59,19 +59,19 @@ pub fn testgen<D: Desk>(alloc: Global, words: &[String], desk: &mut D) -> u8
     // A refusal is told, and nothing else is written.
     ensures refused { result ≡ 2
         → AddsText (D.written desk.old) (D.written desk.new)
-            (Refuses (D.files desk.old) (map string_bytes words.now) result) }
+        (Refuses (D.files desk.old) (map string_bytes words.now) result) }
 
     // A fault comes only where the desk has counted it in this call.
     ensures read_fault { result ≡ 4
         → AddsText (D.written desk.old) (D.written desk.new)
-            (FailsToRead (map string_bytes words.now) (D.read_faults desk.old)
-                (D.read_faults desk.new) result) }
+        (FailsToRead (map string_bytes words.now) (D.read_faults desk.old)
+        (D.read_faults desk.new) result) }
     ensures write_fault { result ≡ 5 → Rose (D.write_faults desk.old) (D.write_faults desk.new) }
 
     // What a call that is cut short has written is a front of what is right.
     ensures cut_short { 5 ≤ result
         → IsCutShort (D.files desk.old) (map string_bytes words.now)
-            (D.read_faults desk.old) (D.read_faults desk.new) (D.written desk.old) (D.written desk.new) }
+        (D.read_faults desk.old) (D.read_faults desk.new) (D.written desk.old) (D.written desk.new) }
 
     // No other name is asked for.
     ensures asked { (name : List ℕ) → AsksGen (map string_bytes words.now) name
