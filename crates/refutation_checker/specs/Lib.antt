@@ -1,0 +1,4 @@
+pub mod Derivation
+pub mod Hints
+pub mod Acceptance
+pub mod Assigned

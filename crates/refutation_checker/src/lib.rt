@@ -1,0 +1,5 @@
+// An independent checker of derivations: it accepts a step by its hints and a cube by unit propagation,
+// and its answer that a formula is refuted is a theorem. It finds no derivation; `sat_solver` does.
+#![tactic(auto)]
+
+mod assignment;
