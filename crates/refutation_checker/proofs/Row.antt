@@ -9,19 +9,11 @@ use Rattle.std.proofs.lemmas.List.Elements.{Contains-push, Contains-push_cases, 
 use Rattle.std.proofs.lemmas.Grind.{common_steps}
 use Rattle.cnf_core.specs.declared.formula.Lit.{Lit}
 use Rattle.cnf_core.specs.Literal.{denial}
+use Rattle.cnf_core.proofs.Literals.{lit, lit-same}
 use Rattle.refutation_checker.specs.Hints.{IsOpen}
-use Rattle.refutation_checker.specs.Assigned.{Agrees, StandsAs, truth_of, is_set}
+use Rattle.refutation_checker.specs.Assigned.{Agrees, IsWithin, StandsAs, truth_of, is_set}
 use Rattle.refutation_checker.specs.declared.assignment.Truth.{Truth}
 use Rattle.refutation_checker.specs.declared.assignment.Truth.TheVariants.{True, False, Open}
-
-pub denial-denial : (l : Lit) → denial (denial l) ≡ l
-denial-denial l = not-not l.positive where
-  not-not : (b : Bool) → denial (denial (record { var = l.var; positive = b })) ≡ record { var = l.var; positive = b }
-  not-not true = refl
-  not-not false = refl
-
-abbrev lit : ℕ → Bool → Lit
-lit v b = record { var = v; positive = b }
 
 set_not_open : (b : Bool) → truth_of b ≡ Open → ⊥
 set_not_open true e = cc
@@ -43,9 +35,6 @@ open_cases False values trail v false h o e = absurd (o.0 (h.on_trail (lit v fal
 -- an open literal's variable is open in the row
 pub open_value : (values : List Truth) (trail : List Lit) (l : Lit) → Agrees values trail → IsOpen trail l → get_or values l.var Open ≡ Open
 open_value values trail l h o = open_cases (get_or values l.var Open) values trail l.var l.positive h o refl
-
-same_lit : (k l : Lit) → k.var ≡ l.var → k.positive ≡ l.positive → k ≡ l
-same_lit k l u p = ap (λ (v : ℕ). lit v k.positive) u ∙ ap (λ (b : Bool). lit l.var b) p
 
 is_set-truth_of : (b : Bool) → is_set (truth_of b) ≡ true
 is_set-truth_of true = refl
@@ -93,7 +82,7 @@ agrees-set values trail l h inside o = record { holds_trail = holds; on_trail = 
       inl same ↦
         let here : get_or (set values l.var (truth_of l.positive)) k.var Open ≡ truth_of l.positive =
           ap (λ (v : ℕ). get_or (set values l.var (truth_of l.positive)) v Open) same ∙ get_or-set_same values l.var (truth_of l.positive) Open inside in
-        let is_l : l ≡ k = same_lit l k (sym same) (truth_of-same l.positive k.positive (sym here ∙ e)) in
+        let is_l : l ≡ k = lit-same l k (sym same) (truth_of-same l.positive k.positive (sym here ∙ e)) in
         subst (Contains (trail ++ l ∷ [])) is_l (Contains-push trail l)
     | inr other ↦ Contains-append_left trail (l ∷ []) k (h.on_trail k (sym (get_or-set_other values l.var k.var (truth_of l.positive) Open other) ∙ e)) ]
   counts : length (trail ++ l ∷ []) ≡ count_by is_set (set values l.var (truth_of l.positive))
@@ -126,12 +115,8 @@ on_trail-pop values trail l inside h k e = elim (cases_eq k.var l.var) [
         inl before ↦ before
       | inr is_l ↦ absurd (other (ap (λ (m : Lit). m.var) (sym is_l))) ] ]
 
--- each variable of the trail is in the row
-abbrev pub IsWithin : List Truth → List Lit → Type 0
-IsWithin values trail = All (λ l. l.var < length values) trail
-
 -- a literal on the trail has its variable in the row, since that variable is not open there
-pub within : (values : List Truth) (trail : List Lit) → Agrees values trail → IsWithin values trail
+pub within : (values : List Truth) (trail : List Lit) → Agrees values trail → IsWithin (length values) trail
 within values trail h k d inside = elim (cases_lt (get_or trail k d).var (length values)) [
     inl below ↦ below
   | inr past ↦ absurd (set_not_open (get_or trail k d).positive

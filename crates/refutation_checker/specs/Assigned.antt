@@ -1,5 +1,5 @@
 -- What an assignment row stands for: the literals that were set, in order, over a number of variables.
-use Rattle.std.specs.Prelude.{◌≡◌, ℕ, ◌≤◌, Bool, true, false, List, length, Contains, count_by, slice_index_or, vec_len, vec_capacity}
+use Rattle.std.specs.Prelude.{◌≡◌, ℕ, ◌<◌, ◌≤◌, All, Bool, true, false, List, length, Contains, count_by, slice_index_or, vec_len, vec_capacity}
 use Rattle.cnf_core.specs.declared.formula.Lit.{Lit}
 use Rattle.cnf_core.specs.Literal.{denial}
 use Rattle.refutation_checker.specs.Hints.{IsOpen}
@@ -10,6 +10,10 @@ use Rattle.refutation_checker.specs.declared.assignment.Truth.TheVariants.{True,
 pub record Assigned : Type 0 where
   pub width : ℕ
   pub trail : List Lit
+
+-- the row has the variables of the literals
+abbrev pub IsWithin : ℕ → List Lit → Type 0
+IsWithin width lits = All (λ l. l.var < width) lits
 
 -- how a literal stands after these were set
 abbrev pub StandsAs : List Lit → Lit → Truth → Type 0

@@ -2,3 +2,4 @@ pub mod Derivation
 pub mod Hints
 pub mod Acceptance
 pub mod Assigned
+pub mod ClauseStates

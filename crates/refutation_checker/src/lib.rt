@@ -3,3 +3,4 @@
 #![tactic(auto)]
 
 mod assignment;
+mod clause_state;
