@@ -1,2 +1,3 @@
 pub mod Row
 pub mod Scan
+pub mod HintSteps

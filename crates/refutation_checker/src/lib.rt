@@ -4,3 +4,4 @@
 
 mod assignment;
 mod clause_state;
+mod hints;
