@@ -1,3 +1,5 @@
 pub mod Row
 pub mod Scan
 pub mod HintSteps
+pub mod Fixpoint
+pub mod PassSteps

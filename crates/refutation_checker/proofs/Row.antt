@@ -62,6 +62,13 @@ room values trail l h inside o =
   let counted = h.counted in
   omega arith
 
+-- the trail is no longer than the row
+pub fits : (values : List Truth) (trail : List Lit) → Agrees values trail → length trail ≤ length values
+fits values trail h =
+  let most : count_by is_set values ≤ length values = count_by-le-length is_set values in
+  let counted = h.counted in
+  omega arith
+
 -- the row and its trail after a literal is set
 pub agrees-set : (values : List Truth) (trail : List Lit) (l : Lit) → Agrees values trail → l.var < length values → IsOpen trail l →
   Agrees (set values l.var (truth_of l.positive)) (trail ++ l ∷ [])

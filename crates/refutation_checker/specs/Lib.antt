@@ -3,3 +3,4 @@ pub mod Hints
 pub mod Acceptance
 pub mod Assigned
 pub mod ClauseStates
+pub mod Propagated

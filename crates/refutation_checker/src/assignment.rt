@@ -1,5 +1,5 @@
 // The assignment row: the truth of each variable, and the trail of the literals that were set.
-ghost use Rattle.std.specs.Prelude.{◌≡◌, ◌<◌, ◌++◌, ◌∷◌, [], IfOk, All};
+ghost use Rattle.std.specs.Prelude.{◌≡◌, ◌<◌, ◌≤◌, ◌++◌, ◌∷◌, [], length, IfOk};
 ghost use Rattle.refutation_checker.specs.Hints.{IsOpen};
 
 use cnf_core::Lit;
@@ -72,6 +72,7 @@ impl Assignment {
         requires is_open { IsOpen self.old.trail l }
         ensures width { self.new.width ≡ self.old.width }
         ensures trail { self.new.trail ≡ self.old.trail ++ l ∷ [] }
+        ensures fits { length self.new.trail ≤ self.new.width }
     {
         self.values[l.var as usize] = Truth::from(l.positive);
         if let Err(_) = self.trail.push(l) {

@@ -32,7 +32,7 @@ fn hint_state(clauses: &[Clause], number: u32, row: &Assignment) -> ClauseState
         return ClauseState::Other;
     };
     match clauses.get(index) {
-        Some(clause) => ClauseState::of(&clause.lits, row),
+        Some(clause) => ClauseState::of(clause.as_slice(), row),
         None => ClauseState::Other,
     }
 }

@@ -5,3 +5,4 @@
 mod assignment;
 mod clause_state;
 mod hints;
+mod plain;

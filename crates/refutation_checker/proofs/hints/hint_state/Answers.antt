@@ -18,7 +18,7 @@ returns-in-Some-get c =
     slice_get_read clauses (length clauses) c.in-Some.index clause refl inside c.in-Some-get.ensures.lookup.1 in
   let there : IsNumbered clauses c.args.number clause =
     (c.in-Some.ensures.0, subst (λ (i : ℕ). slice_get clauses i ≡ Some clause) place at) in
-  let says = subst (λ (lits : List Lit). IsState c.args.row.now.trail lits c.of.result) (c.deref.ensures.value ∙ c.clause.view_is) c.of.ensures in
+  let says = subst (λ (lits : List Lit). IsState c.args.row.now.trail lits c.of.result) c.as_slice.ensures c.of.ensures in
   hint-there clauses c.args.row.now.trail c.args.number clause c.of.result there says
 
 pub returns-in-None : goal.returns-in-None
