@@ -3,3 +3,4 @@ pub mod Scan
 pub mod HintSteps
 pub mod Fixpoint
 pub mod PassSteps
+pub mod Apart

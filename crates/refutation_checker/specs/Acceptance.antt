@@ -6,16 +6,12 @@ use Rattle.cnf_core.specs.declared.derivation.Derived.{Derived}
 use Rattle.cnf_core.specs.declared.derivation.Derived.TheVariants.{Cube, Step}
 use Rattle.cnf_core.specs.Literal.{denial}
 use Rattle.cnf_core.specs.Propagation.{Sets, Conflicts}
-use Rattle.refutation_checker.specs.Derivation.{Derivation, known, IsInput, HasVariable}
+use Rattle.refutation_checker.specs.Derivation.{Derivation, known, IsApart, IsInput, IsVariable}
 use Rattle.refutation_checker.specs.Hints.{HintsConflict}
-
--- no variable stands twice
-abbrev pub IsApart : List Lit → Type 0
-IsApart lits = AllPairs (λ k l. k.var ≢ l.var) lits
 
 -- with the clause's literals false, the hints conflict
 pub record FollowsByHints (d : Derivation) (step : StepLine) : Type 0 where
-  pub variables : All (λ l. HasVariable d l.var) step.clause
+  pub variables : All (λ l. IsVariable d.inputs d.clauses l.var) step.clause
   pub apart : IsApart step.clause
   pub conflict : HintsConflict (known d) (map denial step.clause) step.hints
 
@@ -25,7 +21,7 @@ LeavesOpen clauses decided l = ¬ Sets clauses decided l × ¬ Sets clauses deci
 
 -- propagation conflicts under all the literals and under no fewer of them; before the last one its variable is open
 pub record IsLeastConflict (d : Derivation) (cube : List Lit) : Type 0 where
-  pub inputs : All (λ l. IsInput d l.var) cube
+  pub inputs : All (λ l. IsInput d.inputs l.var) cube
   pub apart : IsApart cube
   pub conflict : Conflicts (known d) cube
   pub needed : (before : List Lit) (l : Lit) (after : List Lit) → cube ≡ before ++ l ∷ after → ¬ Conflicts (known d) (before ++ after)

@@ -1,9 +1,13 @@
 -- A derivation: a formula over input and other variables, and what was derived from it, in order.
-use Rattle.std.specs.Prelude.{◌≡◌, ℕ, ◌<◌, ◌≤◌, ◌⊎◌, ◌++◌, ◌∷◌, [], List, Any, map}
+use Rattle.std.specs.Prelude.{◌≡◌, ◌≢◌, ℕ, ◌<◌, ◌≤◌, ◌⊎◌, ◌++◌, ◌∷◌, [], List, Any, AllPairs, map}
 use Rattle.cnf_core.specs.declared.formula.Lit.{Lit}
 use Rattle.cnf_core.specs.declared.derivation.Derived.{Derived}
 use Rattle.cnf_core.specs.declared.derivation.Derived.TheVariants.{Cube, Step}
 use Rattle.cnf_core.specs.Literal.{denial}
+
+-- no variable stands twice
+abbrev pub IsApart : List Lit → Type 0
+IsApart lits = AllPairs (λ k l. k.var ≢ l.var) lits
 
 -- variables 1 to `inputs` are the inputs
 pub record Derivation : Type 0 where
@@ -24,9 +28,9 @@ known d = d.clauses ++ map clause_of d.derived
 abbrev pub extended : Derivation → Derived → Derivation
 extended d line = record { inputs = d.inputs; clauses = d.clauses; derived = d.derived ++ line ∷ [] }
 
-abbrev pub IsInput : Derivation → ℕ → Type 0
-IsInput d var = (0 < var) × (var ≤ d.inputs)
+abbrev pub IsInput : ℕ → ℕ → Type 0
+IsInput inputs var = (0 < var) × (var ≤ inputs)
 
--- the variable is an input or stands in a clause of the formula
-abbrev pub HasVariable : Derivation → ℕ → Type 0
-HasVariable d var = IsInput d var ⊎ Any (Any (λ l. l.var ≡ var)) d.clauses
+-- the variable is an input or stands in a clause
+abbrev pub IsVariable : ℕ → List (List Lit) → ℕ → Type 0
+IsVariable inputs clauses var = IsInput inputs var ⊎ Any (Any (λ l. l.var ≡ var)) clauses

@@ -4,5 +4,6 @@
 
 mod assignment;
 mod clause_state;
+mod decide;
 mod hints;
 mod plain;
