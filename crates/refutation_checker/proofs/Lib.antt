@@ -4,3 +4,4 @@ pub mod HintSteps
 pub mod Fixpoint
 pub mod PassSteps
 pub mod Apart
+pub mod CubeFacts

@@ -1,5 +1,5 @@
 -- When a step or a cube may be added to a derivation, and when a derivation is a refutation.
-use Rattle.std.specs.Prelude.{◌≡◌, ◌≢◌, ℕ, ◌++◌, ◌∷◌, [], List, slice_get, Some, All, AllPairs, Contains, map, take}
+use Rattle.std.specs.Prelude.{◌≡◌, ℕ, ◌<◌, ◌++◌, ◌∷◌, [], List, length, slice_get, Some, All, Contains, map, take, remove}
 use Rattle.cnf_core.specs.declared.formula.Lit.{Lit}
 use Rattle.cnf_core.specs.declared.derivation.Step.{Step as StepLine}
 use Rattle.cnf_core.specs.declared.derivation.Derived.{Derived}
@@ -19,16 +19,20 @@ pub record FollowsByHints (d : Derivation) (step : StepLine) : Type 0 where
 abbrev pub LeavesOpen : List (List Lit) → List Lit → Lit → Type 0
 LeavesOpen clauses decided l = ¬ Sets clauses decided l × ¬ Sets clauses decided (denial l)
 
+-- without any one of the literals propagation does not conflict
+abbrev pub IsEachNeeded : List (List Lit) → List Lit → Type 0
+IsEachNeeded clauses cube = (i : ℕ) → i < length cube → ¬ Conflicts clauses (remove cube i)
+
 -- propagation conflicts under all the literals and under no fewer of them; before the last one its variable is open
-pub record IsLeastConflict (d : Derivation) (cube : List Lit) : Type 0 where
-  pub inputs : All (λ l. IsInput d.inputs l.var) cube
+pub record IsLeastConflict (inputs : ℕ) (clauses : List (List Lit)) (cube : List Lit) : Type 0 where
+  pub decides_inputs : All (λ l. IsInput inputs l.var) cube
   pub apart : IsApart cube
-  pub conflict : Conflicts (known d) cube
-  pub needed : (before : List Lit) (l : Lit) (after : List Lit) → cube ≡ before ++ l ∷ after → ¬ Conflicts (known d) (before ++ after)
-  pub last : (rest : List Lit) × (l : Lit) × (cube ≡ rest ++ l ∷ []) × LeavesOpen (known d) rest l
+  pub conflict : Conflicts clauses cube
+  pub needed : IsEachNeeded clauses cube
+  pub last : (rest : List Lit) × (l : Lit) × (cube ≡ rest ++ l ∷ []) × LeavesOpen clauses rest l
 
 abbrev pub MayFollow : Derivation → Derived → Type 0
-MayFollow d (Cube cube) = IsLeastConflict d cube
+MayFollow d (Cube cube) = IsLeastConflict d.inputs (known d) cube
 MayFollow d (Step step) = FollowsByHints d step
 
 -- each line may follow the formula and the lines before it

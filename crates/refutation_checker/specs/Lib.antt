@@ -4,3 +4,4 @@ pub mod Acceptance
 pub mod Assigned
 pub mod ClauseStates
 pub mod Propagated
+pub mod Cubes

@@ -1,5 +1,5 @@
 // Deciding literals: they are set in order, as long as no variable stands twice.
-ghost use Rattle.std.specs.Prelude.{◌≡◌, ◌<◌, ◌++◌, ◌∷◌, [], ◌↔◌, IsTrue, map};
+ghost use Rattle.std.specs.Prelude.{◌≡◌, ◌<◌, ◌≤◌, ◌++◌, ◌∷◌, [], ◌↔◌, IsTrue, length, map};
 ghost use Rattle.std.specs.Bool.{OnTrue, OnFalse};
 ghost use Rattle.cnf_core.specs.Literal.{denial};
 ghost use Rattle.refutation_checker.specs.Assigned.{IsWithin};
@@ -12,9 +12,11 @@ use cnf_core::Lit;
 pub fn decide(row: &mut Assignment, lits: &[Lit]) -> bool
     requires within { IsWithin row.old.width lits.now }
     requires apart { IsApart row.old.trail }
+    requires fits { length row.old.trail ≤ row.old.width }
     ensures answer { IsTrue result ↔ IsApart (row.old.trail ++ lits.now) }
     ensures trail { OnTrue result (row.new.trail ≡ row.old.trail ++ lits.now) }
     ensures width { row.new.width ≡ row.old.width }
+    ensures fits { length row.new.trail ≤ row.new.width }
 {
     for l in lits {
         if !decide_one(row, *l) {
@@ -43,9 +45,11 @@ pub fn deny(row: &mut Assignment, clause: &[Lit]) -> bool
 fn decide_one(row: &mut Assignment, l: Lit) -> bool
     requires within { l.var < row.old.width }
     requires apart { IsApart row.old.trail }
+    requires fits { length row.old.trail ≤ row.old.width }
     ensures answer { IsTrue result ↔ IsApart (row.old.trail ++ l ∷ []) }
     ensures trail { OnTrue result (row.new.trail ≡ row.old.trail ++ l ∷ []) }
     ensures width { row.new.width ≡ row.old.width }
+    ensures fits { length row.new.trail ≤ row.new.width }
 {
     if let Truth::Open = row.value(l) {
         row.set(l);

@@ -4,6 +4,7 @@
 
 mod assignment;
 mod clause_state;
+mod cube;
 mod decide;
 mod hints;
 mod plain;

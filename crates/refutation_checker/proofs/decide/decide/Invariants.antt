@@ -1,5 +1,5 @@
 -- The literals before the index are set, and no variable stands twice so far.
-use Rattle.std.proofs.Common.{◌≡◌, ◌++◌, take}
+use Rattle.std.proofs.Common.{◌≡◌, ◌≤◌, length, ◌++◌, take}
 use Rattle.refutation_checker.specs.Derivation.{IsApart}
 use Rattle.refutation_checker.proofs.decide.decide.Given as goal
 
@@ -8,4 +8,5 @@ invariant-loop-l l = record {
   width : l.row.width ≡ l.initial.row.width;
   trail : l.row.trail ≡ l.initial.row.trail ++ take l.l-index l.lits;
   apart : IsApart l.row.trail;
+  fits : length l.row.trail ≤ l.row.width;
 }
