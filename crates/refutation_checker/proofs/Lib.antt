@@ -5,3 +5,4 @@ pub mod Fixpoint
 pub mod PassSteps
 pub mod Apart
 pub mod CubeFacts
+pub mod Sound

@@ -1,12 +1,12 @@
 -- When a step or a cube may be added to a derivation, and when a derivation is a refutation.
-use Rattle.std.specs.Prelude.{◌≡◌, ℕ, ◌<◌, ◌++◌, ◌∷◌, [], List, length, slice_get, Some, All, Contains, map, take, remove}
+use Rattle.std.specs.Prelude.{◌≡◌, ℕ, ◌<◌, ◌++◌, ◌∷◌, [], List, length, slice_get, Some, All, Contains, map, remove}
 use Rattle.cnf_core.specs.declared.formula.Lit.{Lit}
 use Rattle.cnf_core.specs.declared.derivation.Step.{Step as StepLine}
 use Rattle.cnf_core.specs.declared.derivation.Derived.{Derived}
 use Rattle.cnf_core.specs.declared.derivation.Derived.TheVariants.{Cube, Step}
 use Rattle.cnf_core.specs.Literal.{denial}
 use Rattle.cnf_core.specs.Propagation.{Sets, Conflicts}
-use Rattle.refutation_checker.specs.Derivation.{Derivation, known, IsApart, IsInput, IsVariable}
+use Rattle.refutation_checker.specs.Derivation.{Derivation, known, before, IsApart, IsInput, IsVariable}
 use Rattle.refutation_checker.specs.Hints.{HintsConflict}
 
 -- with the clause's literals false, the hints conflict
@@ -37,9 +37,7 @@ MayFollow d (Step step) = FollowsByHints d step
 
 -- each line may follow the formula and the lines before it
 abbrev pub IsAccepted : Derivation → Type 0
-IsAccepted d =
-  (i : ℕ) (line : Derived) → slice_get d.derived i ≡ Some line →
-    MayFollow (record { inputs = d.inputs; clauses = d.clauses; derived = take i d.derived }) line
+IsAccepted d = (i : ℕ) (line : Derived) → slice_get d.derived i ≡ Some line → MayFollow (before d i) line
 
 abbrev pub IsEmptyStep : Derived → Type 0
 IsEmptyStep (Cube cube) = ⊥

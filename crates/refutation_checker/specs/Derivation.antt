@@ -1,5 +1,5 @@
 -- A derivation: a formula over input and other variables, and what was derived from it, in order.
-use Rattle.std.specs.Prelude.{◌≡◌, ◌≢◌, ℕ, ◌<◌, ◌≤◌, ◌⊎◌, ◌++◌, ◌∷◌, [], List, Any, AllPairs, map}
+use Rattle.std.specs.Prelude.{◌≡◌, ◌≢◌, ℕ, ◌<◌, ◌≤◌, ◌⊎◌, ◌++◌, ◌∷◌, [], List, Any, AllPairs, map, take}
 use Rattle.cnf_core.specs.declared.formula.Lit.{Lit}
 use Rattle.cnf_core.specs.declared.derivation.Derived.{Derived}
 use Rattle.cnf_core.specs.declared.derivation.Derived.TheVariants.{Cube, Step}
@@ -23,6 +23,10 @@ clause_of (Step step) = step.clause
 -- the clauses in the order of their numbers, which are from 1
 abbrev pub known : Derivation → List (List Lit)
 known d = d.clauses ++ map clause_of d.derived
+
+-- the formula and the lines before one
+abbrev pub before : Derivation → ℕ → Derivation
+before d i = record { inputs = d.inputs; clauses = d.clauses; derived = take i d.derived }
 
 -- the derivation with a line at its end
 abbrev pub extended : Derivation → Derived → Derivation

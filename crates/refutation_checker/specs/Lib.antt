@@ -5,3 +5,5 @@ pub mod Assigned
 pub mod ClauseStates
 pub mod Propagated
 pub mod Cubes
+pub mod Variables
+pub mod Checked

@@ -3,8 +3,13 @@
 #![tactic(auto)]
 
 mod assignment;
+mod checker;
 mod clause_state;
+mod copies;
 mod cube;
 mod decide;
 mod hints;
 mod plain;
+mod variables;
+
+pub use checker::{CheckFault, Checker};
