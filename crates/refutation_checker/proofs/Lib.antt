@@ -6,3 +6,5 @@ pub mod PassSteps
 pub mod Apart
 pub mod CubeFacts
 pub mod Sound
+pub mod Declared
+pub mod Indexed

@@ -3,10 +3,10 @@ ghost use Rattle.std.specs.Prelude.{◌≡◌, ◌≢◌, ◌↔◌, [], Err, Is
 ghost use Rattle.cnf_core.specs.Truth.{IsUnsatisfiable};
 ghost use Rattle.cnf_core.specs.declared.derivation.Derived.TheVariants.{Cube as CubeLine, Step as StepLine};
 ghost use Rattle.refutation_checker.specs.Acceptance.{FollowsByHints, IsLeastConflict, MayFollow, IsAccepted, IsEmptyStep, HasEmptyStep};
-ghost use Rattle.refutation_checker.specs.Derivation.{clause_of, known, extended};
+ghost use Rattle.refutation_checker.specs.Derivation.{known, extended};
 
 use crate::assignment::Assignment;
-use crate::copies::{copies, copy, denials};
+use crate::copies::{copies, copy, copy_step, line_clause};
 use crate::cube::is_least_conflict;
 use crate::hints::follows;
 use crate::variables::{declared_variables, highest_variable};
@@ -83,12 +83,7 @@ impl Checker {
         if !follows(&self.known, &mut self.row, &self.declared, step) {
             return Err(CheckFault::BadStep);
         }
-        let clause = copy(self.alloc, &step.clause).map_err(CheckFault::Memory)?;
-        let line = Step {
-            clause: copy(self.alloc, &step.clause).map_err(CheckFault::Memory)?,
-            hints: Items::from_slice(self.alloc, step.hints.as_slice()).map_err(CheckFault::Memory)?,
-        };
-        self.add(Derived::Step(line), clause).map_err(CheckFault::Memory)
+        self.add_step(step).map_err(CheckFault::Memory)
     }
 
     /// Adds the cube, as the clause of its denied literals, where it is a least conflict.
@@ -101,9 +96,7 @@ impl Checker {
         if !is_least_conflict(&self.known, &mut self.row, self.inputs, cube.as_slice()) {
             return Err(CheckFault::BadStep);
         }
-        let clause = denials(self.alloc, cube).map_err(CheckFault::Memory)?;
-        let line = copy(self.alloc, cube).map_err(CheckFault::Memory)?;
-        self.add(Derived::Cube(line), clause).map_err(CheckFault::Memory)
+        self.add_cube(cube).map_err(CheckFault::Memory)
     }
 
     /// Whether the empty clause was derived, and so no valuation satisfies the formula.
@@ -115,13 +108,31 @@ impl Checker {
         self.refuted
     }
 
-    fn add(&mut self, line: Derived, clause: Clause) -> Result<(), AllocError>
-        requires follows { MayFollow self.old line }
-        requires clause { clause ≡ clause_of line }
+    fn add_step(&mut self, step: &Step) -> Result<(), AllocError>
+        requires { FollowsByHints self.old step.now }
+        ensures added { OnOk result (self.new ≡ extended self.old (StepLine step.now)) }
+        ensures kept { OnErr result (self.new ≡ self.old) }
+    {
+        let line = copy_step(self.alloc, step)?;
+        self.add(Derived::Step(line))
+    }
+
+    fn add_cube(&mut self, cube: &Cube) -> Result<(), AllocError>
+        requires { IsLeastConflict self.old.inputs (known self.old) cube.now }
+        ensures added { OnOk result (self.new ≡ extended self.old (CubeLine cube.now)) }
+        ensures kept { OnErr result (self.new ≡ self.old) }
+    {
+        let line = copy(self.alloc, cube)?;
+        self.add(Derived::Cube(line))
+    }
+
+    fn add(&mut self, line: Derived) -> Result<(), AllocError>
+        requires { MayFollow self.old line }
         ensures added { OnOk result (self.new ≡ extended self.old line) }
         ensures kept { OnErr result (self.new ≡ self.old) }
     {
         let refutes = is_empty_step(&line);
+        let clause = line_clause(self.alloc, &line)?;
         self.known.reserve(1)?;
         self.derived.push(line)?;
         if let Err(_) = self.known.push(clause) {

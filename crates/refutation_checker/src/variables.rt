@@ -75,10 +75,14 @@ fn declare(row: &mut [bool], lits: &[Lit])
 pub fn are_declared(row: &[bool], lits: &[Lit]) -> bool
     ensures { IsTrue result ↔ All (λ l. IsDeclared row.now l.var) lits.now }
 {
-    for l in lits {
-        if !row.get(l.var as usize).copied().unwrap_or(false) {
-            return false;
-        }
+    lits.iter().all(|l| is_declared(row, l.var))
+}
+
+fn is_declared(row: &[bool], var: u32) -> bool
+    ensures { IsTrue result ↔ IsDeclared row.now var }
+{
+    match row.get(var as usize) {
+        Some(declared) => *declared,
+        None => false,
     }
-    true
 }

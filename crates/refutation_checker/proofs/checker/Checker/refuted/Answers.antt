@@ -1,0 +1,12 @@
+-- What was accepted is sound.
+use Rattle.std.proofs.Common.{◌≡◌, sym, subst}
+use Rattle.cnf_core.specs.Truth.{IsUnsatisfiable}
+use Rattle.refutation_checker.specs.Derivation.{Derivation}
+use Rattle.refutation_checker.specs.Checked.{derivation_of}
+use Rattle.refutation_checker.proofs.Sound.{unsatisfiable-refuted}
+use Rattle.refutation_checker.proofs.checker.Checker.refuted.Goals as goal
+
+pub returns-clause-sound : goal.returns-clause-sound
+returns-clause-sound c = λ refuted.
+  subst (λ (d : Derivation). IsUnsatisfiable d.clauses) c.self.view_is
+    (unsatisfiable-refuted (derivation_of c.self.inside) c.self.invariant.accepted (c.self.invariant.empty_step.0 refuted))
