@@ -4,7 +4,7 @@ use Rattle.std.specs.Prelude.{◌↔◌, IsTrue, All, Contains, Some, None, slic
 use Rattle.std.proofs.Math.Seq.{get_or-append_seam, take-append_seam}
 use Rattle.std.proofs.lemmas.Bool.{cases_lt, cases_eq}
 use Rattle.std.proofs.lemmas.Option.{get_or_from_slice_get, slice_get-get_or, slice_get_within}
-use Rattle.std.proofs.lemmas.List.{take-append-le, take_all, map-append, get_or_append_left, get_or_past, length-map, get_or-map}
+use Rattle.std.proofs.lemmas.List.{append-nil, take-append-le, take_all, map-append, get_or_append_left, get_or_past, length-map, get_or-map}
 use Rattle.std.proofs.lemmas.List.Elements.{All-push, All-weaker, All-map, Contains-push, Contains-push_cases, Contains-append_left}
 use Rattle.cnf_core.specs.declared.formula.Lit.{Lit}
 use Rattle.cnf_core.specs.declared.derivation.Step.{Step as StepLine}
@@ -138,3 +138,34 @@ follows-read inputs given clauses derived declared row refuted step d cs ds h vi
     (subst (λ (x : List (List Lit)). FollowsAmong ds x step ↔ FollowsByHints (derivation inputs given clauses derived) step) (sym clauses_are)
       (subst (λ (x : List Bool). FollowsAmong x clauses step ↔ FollowsByHints (derivation inputs given clauses derived) step) (sym declared_is)
         (follows-among inputs given clauses derived declared row refuted step h)))
+
+no_lines : (line : Derived) → Contains [] line → ⊥
+no_lines line (k , inside , at) = absurd (omega arith)
+
+-- the index of a formula with nothing derived
+pub indexed-new : (inputs : ℕ) (clauses : List (List Lit)) (declared : List Bool) (row : Assigned) →
+  All (All (λ l. l.var < row.width)) clauses → inputs < row.width → row.trail ≡ [] → length declared ≡ row.width → Declares declared inputs clauses →
+  IsIndexedOver inputs (length clauses) clauses [] declared row false
+indexed-new inputs clauses declared row within below nothing size declares = record {
+  given_within = omega arith;
+  numbered = sym (append-nil (take (length clauses) clauses) ∙ all);
+  within = within;
+  inputs_within = below;
+  nothing_set = nothing;
+  declared_width = size;
+  declares = subst (Declares declared inputs) (sym all) declares;
+  accepted = λ i line at. absurd (none i line at);
+  empty_step = ((λ h. cc), (λ h. absurd (no_lines h.0 h.1)));
+} where
+  all : take (length clauses) clauses ≡ clauses
+  all = take_all (length clauses) clauses (omega arith)
+  none : (i : ℕ) (line : Derived) → slice_get [] i ≡ Some line → ⊥
+  none i line at = cc
+
+pub indexed-read : (inputs given : ℕ) (clauses items : List (List Lit)) (derived : List Derived) (declared : List Bool) (row : Assigned) →
+  items ≡ clauses → derived ≡ [] → given ≡ length clauses → IsIndexedOver inputs (length clauses) clauses [] declared row false →
+  IsIndexedOver inputs given items derived declared row false
+indexed-read inputs given clauses items derived declared row items_are none given_is h =
+  subst (λ (g : ℕ). IsIndexedOver inputs g items derived declared row false) (sym given_is)
+    (subst (λ (cs : List (List Lit)). IsIndexedOver inputs (length clauses) cs derived declared row false) (sym items_are)
+      (subst (λ (ds : List Derived). IsIndexedOver inputs (length clauses) clauses ds declared row false) (sym none) h))

@@ -10,6 +10,8 @@ mod cube;
 mod decide;
 mod hints;
 mod plain;
+#[cfg(test)]
+mod tests;
 mod variables;
 
 pub use checker::{CheckFault, Checker};
