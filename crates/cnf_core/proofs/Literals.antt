@@ -1,7 +1,7 @@
 -- Literals: two are equal where their variables and signs are, and the denial of a denial is the literal.
 use Rattle.std.proofs.Common.{◌≡◌, ◌≢◌, ℕ, Bool, true, false, not, ◌&&◌, eqb, refl, ap, sym, ◌∙◌, ◌⊎◌, inl, inr}
 use Rattle.std.proofs.Math.Bool.{beq}
-use Rattle.std.proofs.lemmas.Bool.{eqb-true, eq-eqb, and_parts, and_from, both_ways, cases_eq, not-true, not-false}
+use Rattle.std.proofs.lemmas.Bool.{eqb-true, eq-eqb, and_parts, and_from, both_ways}
 use Rattle.cnf_core.specs.declared.formula.Lit.{Lit}
 use Rattle.cnf_core.specs.Literal.{denial}
 
@@ -38,8 +38,8 @@ lit_eq a b = eqb a.var b.var && beq a.positive b.positive
 
 pub lit_eq-true : (a b : Lit) → lit_eq a b ≡ true → a ≡ b
 lit_eq-true a b e =
-  let parts = and_parts (eqb a.var b.var) (beq a.positive b.positive) e in
-  lit-same a b (eqb-true a.var b.var parts.0) (beq-same a.positive b.positive parts.1)
+    let parts = and_parts (eqb a.var b.var) (beq a.positive b.positive) e in
+    lit-same a b (eqb-true a.var b.var parts.0) (beq-same a.positive b.positive parts.1)
 
 pub lit_eq-itself : (a : Lit) → lit_eq a a ≡ true
 lit_eq-itself a = and_from (eqb a.var a.var) (beq a.positive a.positive) (eq-eqb a.var a.var refl) (beq-itself a.positive)
@@ -63,8 +63,8 @@ signs-cases v false false = inl refl
 
 pub same_var-cases : (a b : Lit) → a.var ≡ b.var → (a ≡ b) ⊎ (a ≡ denial b)
 same_var-cases a b vars =
-  let shift : a ≡ lit b.var a.positive = ap (λ (v : ℕ). lit v a.positive) vars in
-  elim (signs-cases b.var a.positive b.positive) [ inl same ↦ inl (shift ∙ same) | inr other ↦ inr (shift ∙ other) ]
+    let shift : a ≡ lit b.var a.positive = ap (λ (v : ℕ). lit v a.positive) vars in
+    elim (signs-cases b.var a.positive b.positive) [ inl same ↦ inl (shift ∙ same) | inr other ↦ inr (shift ∙ other) ]
 
 pub denial-not_itself : (l : Lit) → l ≡ denial l → ⊥
 denial-not_itself l e = not_itself l.positive (ap (λ (k : Lit). k.positive) e) where

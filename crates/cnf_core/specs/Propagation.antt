@@ -1,5 +1,5 @@
 -- Unit propagation (Davis and Putnam's one-literal rule): the literals that it sets, and when it conflicts.
-use Rattle.std.specs.Prelude.{◌≡◌, ◌≢◌, Bool, IsTrue, List, All, Any, Contains}
+use Rattle.std.specs.Prelude.{◌≢◌, IsTrue, List, All, Any, Contains}
 use Rattle.cnf_core.specs.declared.formula.Lit.{Lit}
 use Rattle.cnf_core.specs.Literal.{LitSet, denial}
 

@@ -1,5 +1,5 @@
 -- Truth in propositional logic: a clause is true where one of its literals is, a formula where each of its clauses is.
-use Rattle.std.specs.Prelude.{◌≡◌, ℕ, ◌-◌, ◌<◌, ◌≤◌, Bool, List, length, slice_get, Some, All, Any}
+use Rattle.std.specs.Prelude.{◌≡◌, ◌-◌, ◌<◌, ◌≤◌, Bool, List, length, slice_get, Some, All, Any}
 use Rattle.cnf_core.specs.declared.formula.Lit.{Lit}
 
 -- the valuation gives the literal's variable, and gives it the literal's sign

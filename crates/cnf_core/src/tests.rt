@@ -4,17 +4,30 @@ use sqlite_items::Items;
 use std::test::Fail;
 
 const fn positive(var: u32) -> Lit {
-    Lit { var, positive: true }
+    Lit {
+        var,
+        positive: true,
+    }
 }
 
 const fn negative(var: u32) -> Lit {
-    Lit { var, positive: false }
+    Lit {
+        var,
+        positive: false,
+    }
 }
 
 /// The clause's truth, where the valuation has its variables.
 fn truth(clause: &Clause, valuation: &Valuation) -> Option<bool> {
-    let has = clause.as_slice().iter().all(|l| 0 < l.var && l.var as usize <= valuation.len());
-    if has { Some(holds(clause, valuation)) } else { None }
+    let has = clause
+        .as_slice()
+        .iter()
+        .all(|l| 0 < l.var && l.var as usize <= valuation.len());
+    if has {
+        Some(holds(clause, valuation))
+    } else {
+        None
+    }
 }
 
 #[test]

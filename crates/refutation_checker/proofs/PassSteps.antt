@@ -1,5 +1,5 @@
 -- One clause of a pass over the clauses.
-use Rattle.std.proofs.Common.{◌≡◌, ◌<◌, Bool, true, false, List, [], ◌∷◌, ◌++◌, length}
+use Rattle.std.proofs.Common.{◌<◌, Bool, true, false, List, [], ◌∷◌, ◌++◌, length}
 use Rattle.std.specs.Prelude.{All}
 use Rattle.std.proofs.lemmas.List.Elements.{All-push}
 use Rattle.cnf_core.specs.declared.formula.Lit.{Lit}
@@ -12,6 +12,6 @@ SoFar front old new true = length old < length new
 SoFar front old new false = All (λ clause. IsState new clause Other) front
 
 pub so_far-other : (front : List (List Lit)) (clause old new : List Lit) (changed : Bool) →
-  SoFar front old new changed → IsState new clause Other → SoFar (front ++ clause ∷ []) old new changed
+    SoFar front old new changed → IsState new clause Other → SoFar (front ++ clause ∷ []) old new changed
 so_far-other front clause old new true h says = h
 so_far-other front clause old new false h says = All-push (λ c. IsState new c Other) front clause h says

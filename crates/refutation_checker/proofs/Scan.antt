@@ -1,13 +1,12 @@
 -- What the front of a clause says under the literals that were set, and one more literal of the clause.
-use Rattle.std.proofs.Common.{◌≡◌, ◌≢◌, ℕ, ◌<◌, List, [], ◌∷◌, ◌++◌, length, get_or, take, drop, refl, ap, sym, ◌∙◌, subst, arith}
+use Rattle.std.proofs.Common.{◌≡◌, ◌≢◌, ℕ, List, [], ◌∷◌, ◌++◌, take, drop, refl, sym, ◌∙◌, subst}
 use Rattle.std.specs.Prelude.{Option, Some, None, All, Contains}
 use Rattle.std.proofs.lemmas.List.{take-append-drop}
 use Rattle.std.proofs.lemmas.List.Elements.{All-push, All-contains, Contains-push, Contains-append_left}
 use Rattle.cnf_core.specs.declared.formula.Lit.{Lit}
-use Rattle.cnf_core.specs.Literal.{denial}
 use Rattle.refutation_checker.specs.Hints.{IsFalse, IsOpen, IsUnit}
 use Rattle.refutation_checker.specs.Assigned.{StandsAs}
-use Rattle.refutation_checker.specs.declared.assignment.Truth.TheVariants.{True, False, Open}
+use Rattle.refutation_checker.specs.declared.assignment.Truth.TheVariants.{True}
 
 -- the literals so far are false, but for the one that is kept
 abbrev pub FrontIs : List Lit → List Lit → Option Lit → Type 0
@@ -46,11 +45,11 @@ unit_is trail clause l x unit stands not_false differs = not_false (All-contains
 -- a clause with a true literal
 pub no_unit-true : (trail clause : List Lit) (x : Lit) → Contains clause x → StandsAs trail x True → (l : Lit) → IsUnit trail clause l → ⊥
 no_unit-true trail clause x stands is_true l unit =
-  unit_is trail clause l x unit stands is_true.1 (λ same. unit.is_open.0 (subst (Contains trail) same is_true.0))
+    unit_is trail clause l x unit stands is_true.1 (λ same. unit.is_open.0 (subst (Contains trail) same is_true.0))
 
 -- a clause with two open literals
 pub no_unit-open : (trail clause : List Lit) (x y : Lit) → Contains clause x → Contains clause y → IsOpen trail x → IsOpen trail y → x ≢ y →
-  (l : Lit) → IsUnit trail clause l → ⊥
+    (l : Lit) → IsUnit trail clause l → ⊥
 no_unit-open trail clause x y x_stands y_stands x_open y_open differs l unit =
-  unit_is trail clause l x unit x_stands x_open.1 (λ x_is.
+    unit_is trail clause l x unit x_stands x_open.1 (λ x_is.
     unit_is trail clause l y unit y_stands y_open.1 (λ y_is. differs (x_is ∙ sym y_is)))

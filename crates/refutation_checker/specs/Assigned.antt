@@ -1,5 +1,5 @@
 -- What an assignment row stands for: the literals that were set, in order, over a number of variables.
-use Rattle.std.specs.Prelude.{◌≡◌, ℕ, ◌<◌, ◌≤◌, All, Bool, true, false, List, length, Contains, count_by, slice_index_or, vec_len, vec_capacity}
+use Rattle.std.specs.Prelude.{◌≡◌, ℕ, ◌<◌, All, Bool, true, false, List, length, Contains, count_by, slice_index_or}
 use Rattle.cnf_core.specs.declared.formula.Lit.{Lit}
 use Rattle.cnf_core.specs.Literal.{denial}
 use Rattle.refutation_checker.specs.Hints.{IsOpen}

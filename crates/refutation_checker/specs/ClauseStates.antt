@@ -1,5 +1,5 @@
 -- What a clause says under the literals that were set.
-use Rattle.std.specs.Prelude.{ℕ, ◌<◌, List, Option, Some, None, All}
+use Rattle.std.specs.Prelude.{ℕ, List, All}
 use Rattle.cnf_core.specs.declared.formula.Lit.{Lit}
 use Rattle.refutation_checker.specs.Hints.{IsFalse, IsUnit, IsNumbered}
 use Rattle.refutation_checker.specs.declared.clause_state.ClauseState.{ClauseState}

@@ -7,4 +7,4 @@ use Rattle.refutation_checker.specs.Acceptance.{LeavesOpen}
 -- before the last literal nothing conflicts, and its variable is open
 abbrev pub IsLastOpen : List (List Lit) → List Lit → Type 0
 IsLastOpen clauses cube =
-  (rest : List Lit) × (l : Lit) × (cube ≡ rest ++ l ∷ []) × ¬ Conflicts clauses rest × LeavesOpen clauses rest l
+    (rest : List Lit) × (l : Lit) × (cube ≡ rest ++ l ∷ []) × ¬ Conflicts clauses rest × LeavesOpen clauses rest l

@@ -22,5 +22,5 @@ IsNumbered clauses number clause = (0 < number) × (slice_get clauses (number - 
 abbrev pub HintsConflict : List (List Lit) → List Lit → List ℕ → Type 0
 HintsConflict clauses assigned [] = ⊥
 HintsConflict clauses assigned (hint ∷ hints) =
-  (clause : List Lit) × IsNumbered clauses hint clause ×
+    (clause : List Lit) × IsNumbered clauses hint clause ×
     (All (IsFalse assigned) clause ⊎ ((l : Lit) × IsUnit assigned clause l × HintsConflict clauses (assigned ++ l ∷ []) hints))

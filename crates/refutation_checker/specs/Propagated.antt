@@ -1,5 +1,5 @@
 -- How far propagation has come: what one pass over the clauses does, and what no pass can go on from.
-use Rattle.std.specs.Prelude.{◌≡◌, ◌<◌, ◌↔◌, List, length, All, Any, Contains}
+use Rattle.std.specs.Prelude.{◌<◌, ◌↔◌, List, length, All, Any, Contains}
 use Rattle.cnf_core.specs.declared.formula.Lit.{Lit}
 use Rattle.cnf_core.specs.Propagation.{Sets}
 use Rattle.refutation_checker.specs.Hints.{IsFalse}

@@ -12,7 +12,12 @@ use crate::plain::propagate;
 use cnf_core::{Clause, Lit};
 
 /// Whether the cube may follow the clauses. The row is as before.
-pub fn is_least_conflict(clauses: &[Clause], row: &mut Assignment, inputs: u32, cube: &[Lit]) -> bool
+pub fn is_least_conflict(
+    clauses: &[Clause],
+    row: &mut Assignment,
+    inputs: u32,
+    cube: &[Lit],
+) -> bool
     requires within { All (IsWithin row.old.width) clauses.now }
     requires inputs { inputs < row.old.width }
     requires nothing_set { row.old.trail ≡ [] }

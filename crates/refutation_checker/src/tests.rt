@@ -86,7 +86,10 @@ const CASES: &[Case] = &[
         shows: "the cube's clause as a hint",
         clauses: SQUARE,
         inputs: 2,
-        lines: &[(Line::Cube(&[-2]), true), (Line::Step(&[], &[5, 3, 4]), true)],
+        lines: &[
+            (Line::Cube(&[-2]), true),
+            (Line::Step(&[], &[5, 3, 4]), true),
+        ],
         refuted: true,
     },
     Case {
@@ -132,14 +135,22 @@ const CASES: &[Case] = &[
         shows: "a literal that no conflict needs",
         clauses: SQUARE,
         inputs: 3,
-        lines: &[(Line::Cube(&[3, -2]), false), (Line::Cube(&[-2, 3]), false), (Line::Cube(&[-2]), true)],
+        lines: &[
+            (Line::Cube(&[3, -2]), false),
+            (Line::Cube(&[-2, 3]), false),
+            (Line::Cube(&[-2]), true),
+        ],
         refuted: false,
     },
     Case {
         shows: "a last literal that is already false",
         clauses: &[&[1, 2], &[-1, -2]],
         inputs: 2,
-        lines: &[(Line::Cube(&[1, 2]), false), (Line::Cube(&[-1, -2]), false), (Line::Cube(&[1]), false)],
+        lines: &[
+            (Line::Cube(&[1, 2]), false),
+            (Line::Cube(&[-1, -2]), false),
+            (Line::Cube(&[1]), false),
+        ],
         refuted: false,
     },
     Case {
@@ -167,7 +178,11 @@ const CASES: &[Case] = &[
         shows: "no clauses and no inputs",
         clauses: &[],
         inputs: 0,
-        lines: &[(Line::Cube(&[1]), false), (Line::Step(&[], &[]), false), (Line::Step(&[1], &[1]), false)],
+        lines: &[
+            (Line::Cube(&[1]), false),
+            (Line::Step(&[], &[]), false),
+            (Line::Step(&[1], &[1]), false),
+        ],
         refuted: false,
     },
 ];
@@ -244,7 +259,10 @@ fn refuting_hints(alloc: Global, known: &[Vec<i32>]) -> Result<Option<Vec<u32>>,
                 hints.push(number)?;
                 return Ok(Some(hints));
             }
-            if let Some(l) = open && count == 1 && !set.contains(&l) {
+            if let Some(l) = open
+                && count == 1
+                && !set.contains(&l)
+            {
                 set.push(l)?;
                 hints.push(number)?;
             }

@@ -31,7 +31,12 @@ fn highest_in(lits: &[Lit], above: u32) -> u32
 }
 
 /// The row of the inputs and the variables of the clauses.
-pub fn declared_variables(alloc: Global, clauses: &[Clause], inputs: u32, width: usize) -> Result<Vec<bool>, AllocError>
+pub fn declared_variables(
+    alloc: Global,
+    clauses: &[Clause],
+    inputs: u32,
+    width: usize,
+) -> Result<Vec<bool>, AllocError>
     requires inputs { inputs < width }
     requires within { All (IsWithin width) clauses.now }
     ensures len { IfOk result (λ row. length row.items ≡ width) }

@@ -1,6 +1,5 @@
 -- The hints that are left conflict now exactly where all of them did at the start.
 use Rattle.std.proofs.Common.{◌≡◌, drop}
-use Rattle.std.specs.Prelude.{◌↔◌}
 use Rattle.refutation_checker.specs.Hints.{HintsConflict}
 use Rattle.refutation_checker.proofs.hints.hints_conflict.Given as goal
 

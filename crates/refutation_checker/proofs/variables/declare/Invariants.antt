@@ -1,5 +1,5 @@
 -- The row has gained the variables of the literals before the index.
-use Rattle.std.proofs.Common.{◌≡◌, length, take}
+use Rattle.std.proofs.Common.{take}
 use Rattle.refutation_checker.specs.Variables.{AddsVariables}
 use Rattle.refutation_checker.proofs.variables.declare.Given as goal
 

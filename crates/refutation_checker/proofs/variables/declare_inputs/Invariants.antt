@@ -1,5 +1,5 @@
 -- The row has the inputs below the index.
-use Rattle.std.proofs.Common.{◌≡◌, ◌<◌, ℕ}
+use Rattle.std.proofs.Common.{◌<◌, ℕ}
 use Rattle.std.specs.Prelude.{◌↔◌}
 use Rattle.refutation_checker.specs.Variables.{IsDeclared}
 use Rattle.refutation_checker.proofs.variables.declare_inputs.Given as goal

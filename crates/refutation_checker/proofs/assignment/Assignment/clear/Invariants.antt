@@ -1,7 +1,6 @@
 -- While literals leave the trail, each variable that is still set has its literal there.
 use Rattle.std.proofs.Common.{◌≡◌, ◌≤◌, length, vec_len}
 use Rattle.std.specs.Prelude.{vec_capacity}
-use Rattle.cnf_core.specs.declared.formula.Lit.{Lit}
 use Rattle.refutation_checker.specs.Assigned.{IsWithin}
 use Rattle.refutation_checker.proofs.Row.{OnTrail}
 use Rattle.refutation_checker.proofs.assignment.Assignment.clear.Given as goal

@@ -1,5 +1,5 @@
 -- What was accepted is sound.
-use Rattle.std.proofs.Common.{◌≡◌, sym, subst}
+use Rattle.std.proofs.Common.{subst}
 use Rattle.cnf_core.specs.Truth.{IsUnsatisfiable}
 use Rattle.refutation_checker.specs.Derivation.{Derivation}
 use Rattle.refutation_checker.specs.Checked.{derivation_of}
@@ -8,5 +8,5 @@ use Rattle.refutation_checker.proofs.checker.Checker.refuted.Goals as goal
 
 pub returns-clause-sound : goal.returns-clause-sound
 returns-clause-sound c = λ refuted.
-  subst (λ (d : Derivation). IsUnsatisfiable d.clauses) c.self.view_is
+    subst (λ (d : Derivation). IsUnsatisfiable d.clauses) c.self.view_is
     (unsatisfiable-refuted (derivation_of c.self.inside) c.self.invariant.accepted (c.self.invariant.empty_step.0 refuted))
