@@ -8,3 +8,5 @@ pub mod CubeFacts
 pub mod Sound
 pub mod Declared
 pub mod Indexed
+pub mod WaitingFacts
+pub mod Listed

@@ -7,3 +7,5 @@ pub mod Propagated
 pub mod Cubes
 pub mod Variables
 pub mod Checked
+pub mod Occurrences
+pub mod Waiting

@@ -1,5 +1,5 @@
 // The assignment row: the truth of each variable, and the trail of the literals that were set.
-ghost use Rattle.std.specs.Prelude.{◌≡◌, ◌<◌, ◌≤◌, ◌++◌, ◌∷◌, [], length, IfOk};
+ghost use Rattle.std.specs.Prelude.{◌≡◌, ◌<◌, ◌≤◌, ◌++◌, ◌∷◌, [], Some, length, slice_get, IfOk};
 ghost use Rattle.refutation_checker.specs.Hints.{IsOpen};
 
 use cnf_core::Lit;
@@ -65,6 +65,22 @@ impl Assignment {
             (Truth::True, true) | (Truth::False, false) => Truth::True,
             (Truth::True, false) | (Truth::False, true) => Truth::False,
         }
+    }
+
+    /// How many literals are set.
+    pub fn count(&self) -> usize
+        ensures { result ≡ length self.now.trail }
+    {
+        self.trail.len()
+    }
+
+    /// The literal that was set at that place of the trail.
+    pub fn nth(&self, place: usize) -> Lit
+        requires { place < length self.now.trail }
+        ensures is { slice_get self.now.trail place ≡ Some result }
+        ensures within { result.var < self.now.width }
+    {
+        self.trail[place]
     }
 
     pub fn set(&mut self, l: Lit)

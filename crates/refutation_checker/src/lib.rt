@@ -9,7 +9,9 @@ mod copies;
 mod cube;
 mod decide;
 mod hints;
+mod index;
 mod plain;
+mod propagation;
 #[cfg(test)]
 mod tests;
 mod variables;
