@@ -43,7 +43,7 @@ step-within d declared width step size declares follows k x inside =
     let there = declared-inside declared (get_or step.clause k x).var ((declares (get_or step.clause k x).var).1 (follows.variables k x inside)) in
     omega arith
 
-line-within : (d : Derivation) (declared : List Bool) (width : ℕ) (line : Derived) → d.inputs < width → length declared ≡ width →
+pub line-within : (d : Derivation) (declared : List Bool) (width : ℕ) (line : Derived) → d.inputs < width → length declared ≡ width →
     Declares declared d.inputs d.clauses → MayFollow d line → IsWithin width (clause_of line)
 line-within d declared width (Cube cube) below size declares may =
     All-map (λ l. l.var < width) denial cube (inputs-within d.inputs width cube below may.decides_inputs)

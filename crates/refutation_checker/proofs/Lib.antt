@@ -10,3 +10,4 @@ pub mod Declared
 pub mod Indexed
 pub mod WaitingFacts
 pub mod Listed
+pub mod Found

@@ -1,10 +1,11 @@
 -- What a checker's fields stand for, and how they fit together.
-use Rattle.std.specs.Prelude.{◌≡◌, ℕ, ◌<◌, ◌≤◌, ◌↔◌, [], Bool, List, length, take, All, IsTrue}
+use Rattle.std.specs.Prelude.{◌≡◌, ℕ, ◌<◌, ◌≤◌, ◌*◌, ◌↔◌, [], Bool, List, length, take, All, IsTrue}
 use Rattle.cnf_core.specs.declared.formula.Lit.{Lit}
 use Rattle.cnf_core.specs.declared.derivation.Derived.{Derived}
 use Rattle.refutation_checker.specs.Derivation.{Derivation, known}
 use Rattle.refutation_checker.specs.Acceptance.{IsAccepted, HasEmptyStep}
 use Rattle.refutation_checker.specs.Assigned.{Assigned, IsWithin}
+use Rattle.refutation_checker.specs.Occurrences.{Covers}
 use Rattle.refutation_checker.specs.Variables.{Declares}
 use Rattle.refutation_checker.specs.declared.checker.Checker.TheInside.{Inside}
 
@@ -27,5 +28,11 @@ pub record IsIndexedOver (inputs given : ℕ) (clauses : List (List Lit)) (deriv
 abbrev pub derivation_of : Inside → Derivation
 derivation_of a = derivation a.inputs a.given a.known.items a.derived
 
+-- each clause is found by its literals
+pub record IsFound (occurrences : List (List ℕ)) (loose : List ℕ) (clauses : List (List Lit)) (width : ℕ) : Type 0 where
+  pub size : length occurrences ≡ 2 * width
+  pub covers : Covers occurrences loose clauses
+
 abbrev pub IsIndexed : Inside → Type 0
 IsIndexed a = IsIndexedOver a.inputs a.given a.known.items a.derived a.declared.items a.row a.refuted
+    × IsFound a.index.occurrences.items a.index.loose.items a.known.items a.row.width

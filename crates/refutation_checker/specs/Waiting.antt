@@ -17,7 +17,7 @@ Waits trail head clause = IsState trail clause Other ⊎ IsAhead trail head clau
 -- the clauses at the places no longer have to be looked at, and the others wait as before
 abbrev pub Settles : List (List Lit) → List ℕ → List Lit → List Lit → Type 0
 Settles clauses places old new =
-  (head place : ℕ) (clause : List Lit) → head ≤ length old → slice_get clauses place ≡ Some clause →
+    (head place : ℕ) (clause : List Lit) → head ≤ length old → slice_get clauses place ≡ Some clause →
     (Waits old head clause ⊎ Contains places place) → Waits new head clause
 
 abbrev pub EndsVisit : List (List Lit) → List ℕ → List Lit → List Lit → Bool → Type 0

@@ -9,6 +9,7 @@ use crate::assignment::Assignment;
 use crate::copies::{copies, copy, copy_step, line_clause};
 use crate::cube::is_least_conflict;
 use crate::hints::follows;
+use crate::index::Index;
 use crate::variables::{declared_variables, highest_variable};
 use cnf_core::{Clause, Clauses, Cube, Derived, Step, Steps};
 use sqlite_items::Items;
@@ -36,6 +37,7 @@ pub struct Checker {
     derived: Steps,
     declared: Vec<bool>,
     row: Assignment,
+    index: Index,
     refuted: bool,
 }
 
@@ -61,6 +63,8 @@ impl Checker {
     {
         let clauses = clauses.as_slice();
         let width = highest_variable(clauses, inputs) as usize + 1;
+        let row = Assignment::new(alloc, width)?;
+        let index = Index::of(alloc, clauses, width, &row)?;
         Ok(Checker {
             alloc,
             inputs,
@@ -68,7 +72,8 @@ impl Checker {
             known: copies(alloc, clauses)?,
             derived: Items::new(alloc),
             declared: declared_variables(alloc, clauses, inputs, width)?,
-            row: Assignment::new(alloc, width)?,
+            row,
+            index,
             refuted: false,
         })
     }
@@ -93,7 +98,13 @@ impl Checker {
         ensures accepted { OnOk result (self.new ≡ extended self.old (CubeLine cube.now)) }
         ensures kept { OnErr result (self.new ≡ self.old) }
     {
-        if !is_least_conflict(&self.known, &mut self.row, self.inputs, cube.as_slice()) {
+        if !is_least_conflict(
+            &self.known,
+            &self.index,
+            &mut self.row,
+            self.inputs,
+            cube.as_slice(),
+        ) {
             return Err(CheckFault::BadStep);
         }
         self.add_cube(cube).map_err(CheckFault::Memory)
@@ -133,6 +144,8 @@ impl Checker {
     {
         let refutes = is_empty_step(&line);
         let clause = line_clause(self.alloc, &line)?;
+        self.index
+            .add(clause.as_slice(), self.known.len(), &self.row)?;
         self.known.reserve(1)?;
         self.derived.push(line)?;
         if let Err(_) = self.known.push(clause) {

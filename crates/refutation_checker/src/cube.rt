@@ -1,24 +1,29 @@
 // Whether a cube conflicts, and needs each of its literals to do so.
-ghost use Rattle.std.specs.Prelude.{◌≡◌, ◌<◌, [], ◌↔◌, IsTrue, All, length, remove};
+ghost use Rattle.std.specs.Prelude.{◌≡◌, ◌<◌, ◌*◌, [], ◌↔◌, IsTrue, All, length, remove};
 ghost use Rattle.cnf_core.specs.Propagation.{Conflicts};
 ghost use Rattle.refutation_checker.specs.Acceptance.{IsLeastConflict, IsEachNeeded};
 ghost use Rattle.refutation_checker.specs.Assigned.{IsWithin};
 ghost use Rattle.refutation_checker.specs.Cubes.{IsLastOpen};
+ghost use Rattle.refutation_checker.specs.Occurrences.{Covers};
 ghost use Rattle.refutation_checker.specs.Derivation.{IsApart, IsInput};
 
 use crate::assignment::{Assignment, Truth};
 use crate::decide::decide;
-use crate::plain::propagate;
+use crate::index::Index;
+use crate::propagation::propagate;
 use cnf_core::{Clause, Lit};
 
 /// Whether the cube may follow the clauses. The row is as before.
 pub fn is_least_conflict(
     clauses: &[Clause],
+    index: &Index,
     row: &mut Assignment,
     inputs: u32,
     cube: &[Lit],
 ) -> bool
     requires within { All (IsWithin row.old.width) clauses.now }
+    requires size { length index.now.occurrences.items ≡ 2 * row.old.width }
+    requires covers { Covers index.now.occurrences.items index.now.loose.items clauses.now }
     requires inputs { inputs < row.old.width }
     requires nothing_set { row.old.trail ≡ [] }
     ensures answer { IsTrue result ↔ IsLeastConflict inputs clauses.now cube.now }
@@ -28,13 +33,13 @@ pub fn is_least_conflict(
     if !are_inputs(cube, inputs) {
         return false;
     }
-    if !conflicts(clauses, row, cube) {
+    if !conflicts(clauses, index, row, cube) {
         return false;
     }
-    if !is_last_open(clauses, row, cube) {
+    if !is_last_open(clauses, index, row, cube) {
         return false;
     }
-    is_each_needed(clauses, row, cube)
+    is_each_needed(clauses, index, row, cube)
 }
 
 fn are_inputs(cube: &[Lit], inputs: u32) -> bool
@@ -43,8 +48,10 @@ fn are_inputs(cube: &[Lit], inputs: u32) -> bool
     cube.iter().all(|l| 0 < l.var && l.var <= inputs)
 }
 
-fn conflicts(clauses: &[Clause], row: &mut Assignment, cube: &[Lit]) -> bool
+fn conflicts(clauses: &[Clause], index: &Index, row: &mut Assignment, cube: &[Lit]) -> bool
     requires within { All (IsWithin row.old.width) clauses.now }
+    requires size { length index.now.occurrences.items ≡ 2 * row.old.width }
+    requires covers { Covers index.now.occurrences.items index.now.loose.items clauses.now }
     requires cube_within { IsWithin row.old.width cube.now }
     requires nothing_set { row.old.trail ≡ [] }
     ensures answer { IsTrue result ↔ (IsApart cube.now × Conflicts clauses.now cube.now) }
@@ -55,13 +62,15 @@ fn conflicts(clauses: &[Clause], row: &mut Assignment, cube: &[Lit]) -> bool
         row.clear();
         return false;
     }
-    let answer = propagate(clauses, row);
+    let answer = propagate(clauses, index, row);
     row.clear();
     answer
 }
 
-fn is_last_open(clauses: &[Clause], row: &mut Assignment, cube: &[Lit]) -> bool
+fn is_last_open(clauses: &[Clause], index: &Index, row: &mut Assignment, cube: &[Lit]) -> bool
     requires within { All (IsWithin row.old.width) clauses.now }
+    requires size { length index.now.occurrences.items ≡ 2 * row.old.width }
+    requires covers { Covers index.now.occurrences.items index.now.loose.items clauses.now }
     requires cube_within { IsWithin row.old.width cube.now }
     requires apart { IsApart cube.now }
     requires nothing_set { row.old.trail ≡ [] }
@@ -74,7 +83,7 @@ fn is_last_open(clauses: &[Clause], row: &mut Assignment, cube: &[Lit]) -> bool
     };
     let decided = decide(row, rest);
     prove!(decided);
-    if propagate(clauses, row) {
+    if propagate(clauses, index, row) {
         row.clear();
         return false;
     }
@@ -83,8 +92,10 @@ fn is_last_open(clauses: &[Clause], row: &mut Assignment, cube: &[Lit]) -> bool
     matches!(truth, Truth::Open)
 }
 
-fn is_each_needed(clauses: &[Clause], row: &mut Assignment, cube: &[Lit]) -> bool
+fn is_each_needed(clauses: &[Clause], index: &Index, row: &mut Assignment, cube: &[Lit]) -> bool
     requires within { All (IsWithin row.old.width) clauses.now }
+    requires size { length index.now.occurrences.items ≡ 2 * row.old.width }
+    requires covers { Covers index.now.occurrences.items index.now.loose.items clauses.now }
     requires cube_within { IsWithin row.old.width cube.now }
     requires apart { IsApart cube.now }
     requires nothing_set { row.old.trail ≡ [] }
@@ -93,15 +104,23 @@ fn is_each_needed(clauses: &[Clause], row: &mut Assignment, cube: &[Lit]) -> boo
     ensures trail { row.new.trail ≡ [] }
 {
     for i in 0..cube.len() {
-        if conflicts_without(clauses, row, cube, i) {
+        if conflicts_without(clauses, index, row, cube, i) {
             return false;
         }
     }
     true
 }
 
-fn conflicts_without(clauses: &[Clause], row: &mut Assignment, cube: &[Lit], i: usize) -> bool
+fn conflicts_without(
+    clauses: &[Clause],
+    index: &Index,
+    row: &mut Assignment,
+    cube: &[Lit],
+    i: usize,
+) -> bool
     requires within { All (IsWithin row.old.width) clauses.now }
+    requires size { length index.now.occurrences.items ≡ 2 * row.old.width }
+    requires covers { Covers index.now.occurrences.items index.now.loose.items clauses.now }
     requires cube_within { IsWithin row.old.width cube.now }
     requires apart { IsApart cube.now }
     requires nothing_set { row.old.trail ≡ [] }
@@ -114,7 +133,7 @@ fn conflicts_without(clauses: &[Clause], row: &mut Assignment, cube: &[Lit], i: 
     prove!(before);
     let after = decide(row, &cube[i + 1..]);
     prove!(after);
-    let answer = propagate(clauses, row);
+    let answer = propagate(clauses, index, row);
     row.clear();
     answer
 }

@@ -3,11 +3,11 @@
 ghost use Rattle.std.specs.Prelude.{◌≡◌, ◌<◌, ◌*◌, ◌^◌, ℕ, [], All, IfOk, OnOk, Contains, length, slice_index_or};
 ghost use Rattle.cnf_core.specs.declared.formula.Lit.{Lit as Literal};
 ghost use Rattle.refutation_checker.specs.Assigned.{IsWithin};
-ghost use Rattle.refutation_checker.specs.Occurrences.{code_of, Keeps, Occurs, HasClause};
+ghost use Rattle.refutation_checker.specs.Occurrences.{code_of, Keeps, Covers, Occurs, HasClause};
 
 use crate::assignment::Assignment;
 use crate::clause_state::ClauseState;
-use cnf_core::Lit;
+use cnf_core::{Clause, Lit};
 use sqlite_items::Items;
 use std::alloc::{AllocError, Global};
 
@@ -20,7 +20,7 @@ pub struct Index {
 
 impl Index {
     /// The index of no clauses, over variables below `width`.
-    pub fn new(alloc: Global, width: usize) -> Result<Index, AllocError>
+    fn new(alloc: Global, width: usize) -> Result<Index, AllocError>
         requires { width < 2 ^ 62 }
         ensures size { IfOk result (λ index. length index.occurrences.items ≡ 2 * width) }
     {
@@ -28,6 +28,27 @@ impl Index {
             occurrences: empty_lists(alloc, width)?,
             loose: Vec::new(alloc),
         })
+    }
+
+    /// The index of the clauses, over the variables of an empty row.
+    pub fn of(
+        alloc: Global,
+        clauses: &[Clause],
+        width: usize,
+        row: &Assignment,
+    ) -> Result<Index, AllocError>
+        requires width { width ≡ row.now.width }
+        requires room { width < 2 ^ 62 }
+        requires within { All (IsWithin row.now.width) clauses.now }
+        requires nothing_set { row.now.trail ≡ [] }
+        ensures size { IfOk result (λ index. length index.occurrences.items ≡ 2 * width) }
+        ensures covers { IfOk result (λ index. Covers index.occurrences.items index.loose.items clauses.now) }
+    {
+        let mut index = Index::new(alloc, width)?;
+        for (place, clause) in clauses.iter().enumerate() {
+            index.add(clause.as_slice(), place, row)?;
+        }
+        Ok(index)
     }
 
     /// Adds the clause at its place; after an `Err` some of its literals may be there.
@@ -80,7 +101,11 @@ fn empty_lists(alloc: Global, width: usize) -> Result<Vec<Items<usize>>, AllocEr
     Ok(lists)
 }
 
-fn add_occurrences(occurrences: &mut Vec<Items<usize>>, clause: &[Lit], place: usize) -> Result<(), AllocError>
+fn add_occurrences(
+    occurrences: &mut Vec<Items<usize>>,
+    clause: &[Lit],
+    place: usize,
+) -> Result<(), AllocError>
     requires { All (λ l. code_of l < length occurrences.old.items) clause.now }
     ensures size { length occurrences.new.items ≡ length occurrences.old.items }
     ensures keeps { Keeps occurrences.old.items occurrences.new.items }

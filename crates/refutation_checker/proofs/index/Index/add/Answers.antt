@@ -10,5 +10,5 @@ use Rattle.refutation_checker.proofs.index.Index.add.Goals as goal
 
 pub returns-in-Other-clause-added : goal.returns-in-Other-clause-added
 returns-in-Other-clause-added c =
-  let before_any : IsState [] c.args.clause.now Other = subst (λ (trail : List Lit). IsState trail c.args.clause.now Other) c.requires.nothing_set c.in-Other.ensures in
-  record { found = c.in_ok-add_occurrences.ensures.added; waits = inl before_any }
+    let before_any : IsState [] c.args.clause.now Other = subst (λ (trail : List Lit). IsState trail c.args.clause.now Other) c.requires.nothing_set c.in-Other.ensures in
+    record { found = c.in_ok-add_occurrences.ensures.added; waits = inl before_any }
