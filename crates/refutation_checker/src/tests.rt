@@ -1,7 +1,11 @@
 // The record of the two-variable example and its broken forms, and every set of full clauses over three
 // variables, refuted exactly where no valuation satisfies it.
-use crate::{CheckFault, Checker};
-use cnf_core::{Clauses, Lit, Step};
+use crate::assignment::Assignment;
+use crate::decide::decide;
+use crate::index::Index;
+use crate::variables::highest_variable;
+use crate::{CheckFault, Checker, plain, propagation};
+use cnf_core::{Clause, Clauses, Lit, Step};
 use sqlite_items::Items;
 use std::alloc::{AllocError, Global};
 use std::process::Abort;
@@ -309,6 +313,53 @@ fn refutes_exactly_what_no_valuation_satisfies(rt: HostRuntime) -> Result<(), Fa
     for mask in 0..256 {
         let refuted = is_refuted(rt.alloc(), mask)?;
         assert_eq!(rt; refuted, mask == 255, "set {mask}");
+    }
+    Ok(())
+}
+
+/// How many literals the plain program sets and how many the shipped one does, with none at a conflict.
+fn set_by_both(
+    alloc: Global,
+    clauses: &[Clause],
+    decided: &[Lit],
+) -> Result<(Option<usize>, Option<usize>), AllocError> {
+    let width = highest_variable(clauses, 3) as usize + 1;
+    let mut plain_row = Assignment::new(alloc, width)?;
+    let mut row = Assignment::new(alloc, width)?;
+    let index = Index::of(alloc, clauses, width, &row)?;
+    let inside = decided.iter().all(|l| (l.var as usize) < width);
+    if !inside || !decide(&mut plain_row, decided) || !decide(&mut row, decided) {
+        return Ok((None, None));
+    }
+    let plain = if plain::propagate(clauses, &mut plain_row) {
+        None
+    } else {
+        Some(plain_row.count())
+    };
+    let shipped = if propagation::propagate(clauses, &index, &mut row) {
+        None
+    } else {
+        Some(row.count())
+    };
+    Ok((plain, shipped))
+}
+
+#[test]
+fn propagates_as_the_plain_program_does(rt: HostRuntime) -> Result<(), Fail> {
+    let formulas: [&[&[i32]]; 5] = [
+        SQUARE,
+        &[&[1, 2], &[-2, 3], &[-3, -1, 2], &[1]],
+        &[&[1, 1], &[-1, 2, 2], &[3, -3], &[-2, -1]],
+        &[&[1, 2, 3], &[-1, 2], &[-2, 3], &[-3, 1]],
+        &[&[-1], &[1, 2, 3], &[-2, -3], &[]],
+    ];
+    for clauses in formulas {
+        let clauses = formula(rt.alloc(), clauses)?;
+        for cube in CUBES {
+            let decided = literals(rt.alloc(), cube)?;
+            let (plain, shipped) = set_by_both(rt.alloc(), clauses.as_slice(), decided.as_slice())?;
+            assert_eq!(rt; plain, shipped);
+        }
     }
     Ok(())
 }
