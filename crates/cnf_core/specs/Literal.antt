@@ -1,0 +1,11 @@
+-- Literals of propositional logic, and sets of them.
+use Rattle.std.specs.Prelude.{Bool, not}
+use Rattle.cnf_core.specs.declared.formula.Lit.{Lit}
+
+-- the literal of the same variable and the other sign
+abbrev pub denial : Lit → Lit
+denial l = record { var = l.var; positive = not l.positive }
+
+-- a set of literals, as the test for its members
+abbrev pub LitSet : Type 0
+LitSet = Lit → Bool

@@ -1,0 +1,58 @@
+-- No variable stands twice: in a list with one more literal, in a front, and in the list of denials.
+use Rattle.std.proofs.Common.{◌≡◌, ◌≢◌, ℕ, ◌<◌, List, [], ◌∷◌, ◌++◌, length, get_or, take, drop, map, inl, inr, refl, ap, sym, ◌∙◌, subst, arith, length-append}
+use Rattle.std.specs.Prelude.{Contains}
+use Rattle.std.proofs.lemmas.List.{get_or_append_left, get_or-map, take-append-drop, length-map}
+use Rattle.std.proofs.Math.Seq.{get_or-append_seam}
+use Rattle.std.proofs.lemmas.List.Elements.{Contains-get_or}
+use Rattle.std.proofs.lemmas.List.Quantifiers.{all_pairs_push}
+use Rattle.cnf_core.specs.declared.formula.Lit.{Lit}
+use Rattle.cnf_core.specs.Literal.{denial}
+use Rattle.cnf_core.proofs.Literals.{same_var-cases}
+use Rattle.refutation_checker.specs.Hints.{IsOpen}
+use Rattle.refutation_checker.specs.Derivation.{IsApart}
+use Rattle.refutation_checker.specs.Assigned.{StandsAs}
+use Rattle.refutation_checker.specs.declared.assignment.Truth.{Truth}
+use Rattle.refutation_checker.specs.declared.assignment.Truth.TheVariants.{True, False, Open}
+
+-- an open literal has a variable of its own
+pub apart-open : (trail : List Lit) (l : Lit) → IsApart trail → IsOpen trail l → IsApart (trail ++ l ∷ [])
+apart-open trail l apart is_open = all_pairs_push (λ k m. k.var ≢ m.var) trail l apart
+    (λ k d inside same. elim (same_var-cases (get_or trail k d) l same) [
+      | inl is_l ↦ is_open.0 (subst (Contains trail) is_l (Contains-get_or trail k d inside))
+      | inr denied ↦ is_open.1 (subst (Contains trail) denied (Contains-get_or trail k d inside))
+    ])
+
+-- and a literal of a variable that is there has not
+pub apart-taken : (trail : List Lit) (x l : Lit) → Contains trail x → x.var ≡ l.var → IsApart (trail ++ l ∷ []) → ⊥
+apart-taken trail x l (k, inside, at) same apart =
+    let first : get_or (trail ++ l ∷ []) k x ≡ x = get_or_append_left trail (l ∷ []) x k inside ∙ at in
+    let last : get_or (trail ++ l ∷ []) (length trail) x ≡ l = get_or-append_seam trail l [] x in
+    apart k (length trail) x inside (omega (arith, length-append trail (l ∷ [])))
+    (ap (λ (m : Lit). m.var) first ∙ same ∙ ap (λ (m : Lit). m.var) (sym last))
+
+pub apart-front : (xs ys : List Lit) → IsApart (xs ++ ys) → IsApart xs
+apart-front xs ys apart i j d below inside same =
+    apart i j d below (omega (arith, length-append xs ys))
+    (ap (λ (m : Lit). m.var) (get_or_append_left xs ys d i (omega arith)) ∙ same ∙ ap (λ (m : Lit). m.var) (sym (get_or_append_left xs ys d j inside)))
+
+pub apart-take : (n : ℕ) (xs : List Lit) → IsApart xs → IsApart (take n xs)
+apart-take n xs apart = apart-front (take n xs) (drop n xs) (subst IsApart (sym (take-append-drop n xs)) apart)
+
+var-denials : (xs : List Lit) (i : ℕ) (d : Lit) → i < length xs → (get_or (map denial xs) i d).var ≡ (get_or xs i d).var
+var-denials xs i d inside = ap (λ (m : Lit). m.var) (get_or-map denial xs i d d inside)
+
+pub apart-denials : (xs : List Lit) → IsApart xs → IsApart (map denial xs)
+apart-denials xs apart i j d below inside same =
+    let size = length-map xs denial in
+    apart i j d below (omega arith) (sym (var-denials xs i d (omega arith)) ∙ same ∙ var-denials xs j d (omega arith))
+
+pub apart-from_denials : (xs : List Lit) → IsApart (map denial xs) → IsApart xs
+apart-from_denials xs apart i j d below inside same =
+    let size = length-map xs denial in
+    apart i j d below (omega arith) (var-denials xs i d (omega arith) ∙ same ∙ sym (var-denials xs j d (omega arith)))
+
+-- a literal that is not open has its variable on the trail
+pub apart-set : (trail : List Lit) (l : Lit) (t : Truth) → StandsAs trail l t → (t ≡ Open → ⊥) → IsApart (trail ++ l ∷ []) → ⊥
+apart-set trail l True says not_open = apart-taken trail l l says.0 refl
+apart-set trail l False says not_open = apart-taken trail (denial l) l says.0 refl
+apart-set trail l Open says not_open = absurd (not_open refl)

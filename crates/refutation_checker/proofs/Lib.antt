@@ -1,0 +1,13 @@
+pub mod Row
+pub mod Scan
+pub mod HintSteps
+pub mod Fixpoint
+pub mod PassSteps
+pub mod Apart
+pub mod CubeFacts
+pub mod Sound
+pub mod Declared
+pub mod Indexed
+pub mod WaitingFacts
+pub mod Listed
+pub mod Found

@@ -1,0 +1,16 @@
+-- A literal of the trail has its variable in the row.
+use Rattle.std.proofs.Common.{◌≡◌, ◌<◌, ◌≤◌, length, sym, subst, arith, ap}
+use Rattle.cnf_core.specs.declared.formula.Lit.{Lit}
+use Rattle.cnf_core.proofs.Literals.{no_lit}
+use Rattle.refutation_checker.specs.Assigned.{Assigned}
+use Rattle.refutation_checker.proofs.Row.{within}
+use Rattle.refutation_checker.proofs.assignment.Assignment.nth.Goals as goal
+
+pub returns-clause-within : goal.returns-clause-within
+returns-clause-within c =
+    let width = ap (λ (a : Assigned). a.width) c.self.view_is in
+    let size = ap (λ (a : Assigned). length a.trail) c.self.view_is in
+    let inside : c.args.place < length c.self.inside.trail.items = omega arith in
+    let below = within c.self.inside.values.items c.self.inside.trail.items c.self.invariant.0 c.args.place c.index.result.now inside in
+    let read = ap (λ (l : Lit). l.var) c.index.ensures in
+    omega arith

@@ -1,0 +1,12 @@
+-- The literals before the index are needed, and nothing is set between two questions.
+use Rattle.std.proofs.Common.{◌≡◌, ◌<◌, ℕ, []}
+use Rattle.std.specs.Prelude.{remove}
+use Rattle.cnf_core.specs.Propagation.{Conflicts}
+use Rattle.refutation_checker.proofs.cube.is_each_needed.Given as goal
+
+abbrev pub invariant-loop-i : goal.invariant-loop-i
+invariant-loop-i l = record {
+  width : l.row.width ≡ l.initial.row.width;
+  trail : l.row.trail ≡ [];
+  needed : (k : ℕ) → k < l.i → Conflicts l.clauses (remove l.cube k) → ⊥;
+}

@@ -1,0 +1,12 @@
+-- The literals before the index are set, and no variable stands twice so far.
+use Rattle.std.proofs.Common.{◌≡◌, ◌≤◌, length, ◌++◌, take}
+use Rattle.refutation_checker.specs.Derivation.{IsApart}
+use Rattle.refutation_checker.proofs.decide.decide.Given as goal
+
+abbrev pub invariant-loop-l : goal.invariant-loop-l
+invariant-loop-l l = record {
+  width : l.row.width ≡ l.initial.row.width;
+  trail : l.row.trail ≡ l.initial.row.trail ++ take l.l-index l.lits;
+  apart : IsApart l.row.trail;
+  fits : length l.row.trail ≤ l.row.width;
+}

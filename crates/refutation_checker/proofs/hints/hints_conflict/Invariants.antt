@@ -1,0 +1,11 @@
+-- The hints that are left conflict now exactly where all of them did at the start.
+use Rattle.std.proofs.Common.{◌≡◌, drop}
+use Rattle.refutation_checker.specs.Hints.{HintsConflict}
+use Rattle.refutation_checker.proofs.hints.hints_conflict.Given as goal
+
+abbrev pub invariant-loop-hint : goal.invariant-loop-hint
+invariant-loop-hint l = record {
+  width : l.row.width ≡ l.initial.row.width;
+  onward : HintsConflict l.clauses l.row.trail (drop l.hint-index l.hints) → HintsConflict l.clauses l.initial.row.trail l.hints;
+  back : HintsConflict l.clauses l.initial.row.trail l.hints → HintsConflict l.clauses l.row.trail (drop l.hint-index l.hints);
+}

@@ -1,0 +1,76 @@
+-- A clause that is denied ends the pass, a unit makes the trail grow, and another clause goes to those that say nothing.
+use Rattle.std.proofs.Common.{◌≡◌, ◌≤◌, ◌+◌, ◌++◌, ◌∷◌, [], false, List, length, length-append, take, sym, ap, subst, ◌∙◌, arith}
+use Rattle.std.specs.Prelude.{All, Contains}
+use Rattle.std.proofs.lemmas.List.{take_more, take_all}
+use Rattle.cnf_core.specs.declared.formula.Lit.{Lit}
+use Rattle.refutation_checker.specs.Hints.{IsFalse, IsUnit}
+use Rattle.refutation_checker.specs.Assigned.{Assigned}
+use Rattle.refutation_checker.specs.ClauseStates.{IsState}
+use Rattle.refutation_checker.specs.declared.clause_state.ClauseState.TheVariants.{Other}
+use Rattle.refutation_checker.specs.Propagated.{Grew}
+use Rattle.refutation_checker.proofs.PassSteps.{SoFar, so_far-other}
+use Rattle.refutation_checker.proofs.Fixpoint.{grew-unit}
+use Rattle.refutation_checker.proofs.plain.one_pass.Goals as goal
+use Rattle.refutation_checker.proofs.plain.one_pass.Goals.{in-Unit, in-Other}
+
+pub returns-in-Denied-clause-end : goal.returns-in-Denied-clause-end
+returns-in-Denied-clause-end c = (
+  c.loop-clause.clause-index,
+  c.clause-item.result,
+  c.loop-clause-test.true,
+  sym c.clause-item.is,
+  subst (All (IsFalse c.loop-clause.row.trail)) c.as_slice.ensures c.in-Denied.ensures,
+)
+
+pub loop-clause-preserved : goal.loop-clause-preserved
+loop-clause-preserved c =
+    let clauses = c.args.clauses.now in
+    let i = c.loop-clause.clause-index in
+    let clause = c.clause-item.result in
+    let old = c.args.row.now.trail in
+    let trail = c.loop-clause.row.trail in
+    let inv = c.loop-clause.invariant in
+    let stands : Contains clauses clause = (i, c.loop-clause-test.true, sym c.clause-item.is) in
+    let more : take (i + 1) clauses ≡ take i clauses ++ clause ∷ [] =
+    take_more clauses i clause c.loop-clause-test.true ∙ ap (λ (c' : List Lit). take i clauses ++ c' ∷ []) (sym c.clause-item.is) in
+    elim c.match-of.branch [
+      | in-Unit w ↦
+          let l = w.in-Unit.l in
+          let unit : IsUnit trail clause l = subst (λ (lits : List Lit). IsUnit trail lits l) c.as_slice.ensures w.in-Unit.ensures in
+          let longer : length (trail ++ l ∷ []) ≡ length trail + 1 = omega (arith, length-append trail (l ∷ [])) in
+          let grew : Grew clauses old (trail ++ l ∷ []) = grew-unit clauses old trail clause l inv.grew stands unit in
+          let trail_is : c.match-of.row.trail ≡ trail ++ l ∷ [] = ap (λ (a : Assigned). a.trail) w.row-is ∙ w.set.ensures.trail in
+          let width_is = ap (λ (a : Assigned). a.width) w.row-is in
+          record {
+            width = width_is ∙ w.set.ensures.width ∙ inv.width;
+            fits = subst (λ (a : Assigned). length a.trail ≤ a.width) (sym w.row-is) w.set.ensures.fits;
+            grows = rw trail_is (omega (arith, longer, inv.grows));
+            grew = rw trail_is grew;
+            so_far = rw (w.changed-is, trail_is) (omega (arith, longer, inv.grows));
+          }
+      | in-Other w ↦
+          let says : IsState trail clause Other = subst (λ (lits : List Lit). IsState trail lits Other) c.as_slice.ensures w.in-Other.ensures in
+          let so_far : SoFar (take (i + 1) clauses) old trail c.loop-clause.changed =
+          rw more (so_far-other (take i clauses) clause old trail c.loop-clause.changed inv.so_far says) in
+          subst (λ (a : Assigned). record {
+            width : a.width ≡ c.args.row.now.width;
+            fits : length a.trail ≤ a.width;
+            grows : length old ≤ length a.trail;
+            grew : Grew clauses old a.trail;
+            so_far : SoFar (take (i + 1) clauses) old a.trail c.match-of.changed;
+          }) (sym w.row-is) (record {
+            width = inv.width;
+            fits = inv.fits;
+            grows = inv.grows;
+            grew = inv.grew;
+            so_far = rw w.changed-is so_far;
+          })
+    ]
+
+pub returns-else-changed-clause-end : goal.returns-else-changed-clause-end
+returns-else-changed-clause-end c =
+    let clauses = c.args.clauses.now in
+    let i = c.loop-clause.clause-index in
+    let fixed : SoFar (take i clauses) c.args.row.now.trail c.loop-clause.row.trail false =
+    subst (SoFar (take i clauses) c.args.row.now.trail c.loop-clause.row.trail) c.if-changed.false c.loop-clause.invariant.so_far in
+    subst (All (λ clause. IsState c.loop-clause.row.trail clause Other)) (take_all i clauses c.loop-clause-test.false) fixed

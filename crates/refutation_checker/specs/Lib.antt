@@ -1,0 +1,11 @@
+pub mod Derivation
+pub mod Hints
+pub mod Acceptance
+pub mod Assigned
+pub mod ClauseStates
+pub mod Propagated
+pub mod Cubes
+pub mod Variables
+pub mod Checked
+pub mod Occurrences
+pub mod Waiting

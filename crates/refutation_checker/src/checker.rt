@@ -1,0 +1,168 @@
+// The checker: a formula with what was derived from it and accepted.
+ghost use Rattle.std.specs.Prelude.{◌≡◌, ◌≢◌, ◌↔◌, [], Err, IsTrue, IfOk, OnOk, OnErr};
+ghost use Rattle.cnf_core.specs.Truth.{IsUnsatisfiable};
+ghost use Rattle.cnf_core.specs.declared.derivation.Derived.TheVariants.{Cube as CubeLine, Step as StepLine};
+ghost use Rattle.refutation_checker.specs.Acceptance.{FollowsByHints, IsLeastConflict, MayFollow, IsAccepted, IsEmptyStep, HasEmptyStep};
+ghost use Rattle.refutation_checker.specs.Derivation.{known, extended};
+
+use crate::assignment::Assignment;
+use crate::copies::{copies, copy, copy_step, line_clause};
+use crate::cube::is_least_conflict;
+use crate::hints::follows;
+use crate::index::Index;
+use crate::variables::{declared_variables, highest_variable};
+use cnf_core::{Clause, Clauses, Cube, Derived, Step, Steps};
+use sqlite_items::Items;
+use std::alloc::{AllocError, Global};
+use std::marker::Model;
+use thiserror::Error;
+
+/// Why a step or a cube was not accepted.
+#[derive(Debug, Drop, Error)]
+pub enum CheckFault {
+    /// It does not follow by its rule.
+    #[error("it does not follow from the clauses before it")]
+    BadStep,
+    #[error(transparent)]
+    Memory(AllocError),
+}
+
+/// A formula and the steps and cubes that were accepted, each after those before it.
+#[derive(Drop)]
+pub struct Checker {
+    alloc: Global,
+    inputs: u32,
+    given: usize,
+    known: Vec<Clause>,
+    derived: Steps,
+    declared: Vec<bool>,
+    row: Assignment,
+    index: Index,
+    refuted: bool,
+}
+
+impl Model for Checker {
+    ghost use Rattle.refutation_checker.specs.Derivation.{Derivation};
+
+    ghost Value = { Derivation };
+
+    ghost use Rattle.refutation_checker.specs.Checked.{derivation_of, IsIndexed};
+
+    ghost view = { derivation_of };
+
+    ghost invariant = { IsIndexed };
+}
+
+impl Checker {
+    /// A checker of the formula with nothing derived. Variables 1 to `inputs` are those that cubes may
+    /// decide. The row that propagation works on is taken here.
+    pub fn new(alloc: Global, clauses: &Clauses, inputs: u32) -> Result<Checker, AllocError>
+        ensures inputs { IfOk result (λ c. c.inputs ≡ inputs) }
+        ensures clauses { IfOk result (λ c. c.clauses ≡ clauses.now) }
+        ensures derived { IfOk result (λ c. c.derived ≡ []) }
+    {
+        let clauses = clauses.as_slice();
+        let width = highest_variable(clauses, inputs) as usize + 1;
+        let row = Assignment::new(alloc, width)?;
+        let index = Index::of(alloc, clauses, width, &row)?;
+        Ok(Checker {
+            alloc,
+            inputs,
+            given: clauses.len(),
+            known: copies(alloc, clauses)?,
+            derived: Items::new(alloc),
+            declared: declared_variables(alloc, clauses, inputs, width)?,
+            row,
+            index,
+            refuted: false,
+        })
+    }
+
+    /// Adds the step where it follows by its hints.
+    pub fn accept(&mut self, step: &Step) -> Result<(), CheckFault>
+        ensures refused { result ≡ Err CheckFault.BadStep → ¬ FollowsByHints self.old step.now }
+        ensures follows { result ≢ Err CheckFault.BadStep → FollowsByHints self.old step.now }
+        ensures accepted { OnOk result (self.new ≡ extended self.old (StepLine step.now)) }
+        ensures kept { OnErr result (self.new ≡ self.old) }
+    {
+        if !follows(&self.known, &mut self.row, &self.declared, step) {
+            return Err(CheckFault::BadStep);
+        }
+        self.add_step(step).map_err(CheckFault::Memory)
+    }
+
+    /// Adds the cube, as the clause of its denied literals, where it is a least conflict.
+    pub fn accept_cube(&mut self, cube: &Cube) -> Result<(), CheckFault>
+        ensures refused { result ≡ Err CheckFault.BadStep → ¬ IsLeastConflict self.old.inputs (known self.old) cube.now }
+        ensures follows { result ≢ Err CheckFault.BadStep → IsLeastConflict self.old.inputs (known self.old) cube.now }
+        ensures accepted { OnOk result (self.new ≡ extended self.old (CubeLine cube.now)) }
+        ensures kept { OnErr result (self.new ≡ self.old) }
+    {
+        if !is_least_conflict(
+            &self.known,
+            &self.index,
+            &mut self.row,
+            self.inputs,
+            cube.as_slice(),
+        ) {
+            return Err(CheckFault::BadStep);
+        }
+        self.add_cube(cube).map_err(CheckFault::Memory)
+    }
+
+    /// Whether the empty clause was derived, and so no valuation satisfies the formula.
+    pub fn refuted(&self) -> bool
+        ensures answer { IsTrue result ↔ HasEmptyStep self.now }
+        ensures sound { IsTrue result → IsUnsatisfiable self.now.clauses }
+        ensures accepted { IsAccepted self.now }
+    {
+        self.refuted
+    }
+
+    fn add_step(&mut self, step: &Step) -> Result<(), AllocError>
+        requires { FollowsByHints self.old step.now }
+        ensures added { OnOk result (self.new ≡ extended self.old (StepLine step.now)) }
+        ensures kept { OnErr result (self.new ≡ self.old) }
+    {
+        let line = copy_step(self.alloc, step)?;
+        self.add(Derived::Step(line))
+    }
+
+    fn add_cube(&mut self, cube: &Cube) -> Result<(), AllocError>
+        requires { IsLeastConflict self.old.inputs (known self.old) cube.now }
+        ensures added { OnOk result (self.new ≡ extended self.old (CubeLine cube.now)) }
+        ensures kept { OnErr result (self.new ≡ self.old) }
+    {
+        let line = copy(self.alloc, cube)?;
+        self.add(Derived::Cube(line))
+    }
+
+    fn add(&mut self, line: Derived) -> Result<(), AllocError>
+        requires { MayFollow self.old line }
+        ensures added { OnOk result (self.new ≡ extended self.old line) }
+        ensures kept { OnErr result (self.new ≡ self.old) }
+    {
+        let refutes = is_empty_step(&line);
+        let clause = line_clause(self.alloc, &line)?;
+        self.index
+            .add(clause.as_slice(), self.known.len(), &self.row)?;
+        self.known.reserve(1)?;
+        self.derived.push(line)?;
+        if let Err(_) = self.known.push(clause) {
+            unreachable!()
+        }
+        if refutes {
+            self.refuted = true;
+        }
+        Ok(())
+    }
+}
+
+fn is_empty_step(line: &Derived) -> bool
+    ensures { IsTrue result ↔ IsEmptyStep line.now }
+{
+    match line {
+        Derived::Cube(_) => false,
+        Derived::Step(step) => step.clause.is_empty(),
+    }
+}

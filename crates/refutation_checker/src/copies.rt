@@ -1,0 +1,54 @@
+// Copies of literals, clauses and steps.
+ghost use Rattle.std.specs.Prelude.{◌≡◌, IfOk, map};
+ghost use Rattle.cnf_core.specs.Literal.{denial};
+ghost use Rattle.refutation_checker.specs.Derivation.{clause_of};
+
+use cnf_core::{Clause, Cube, Derived, Lit, Step};
+use sqlite_items::Items;
+use std::alloc::{AllocError, Global};
+
+pub fn copy(alloc: Global, lits: &Items<Lit>) -> Result<Items<Lit>, AllocError>
+    ensures { IfOk result (λ copied. copied ≡ lits.now) }
+{
+    Items::from_slice(alloc, lits.as_slice())
+}
+
+pub fn copy_step(alloc: Global, step: &Step) -> Result<Step, AllocError>
+    ensures { IfOk result (λ copied. copied ≡ step.now) }
+{
+    Ok(Step {
+        clause: copy(alloc, &step.clause)?,
+        hints: Items::from_slice(alloc, step.hints.as_slice())?,
+    })
+}
+
+/// The clause that the line counts as.
+pub fn line_clause(alloc: Global, line: &Derived) -> Result<Clause, AllocError>
+    ensures { IfOk result (λ clause. clause ≡ clause_of line.now) }
+{
+    match line {
+        Derived::Cube(cube) => denials(alloc, cube),
+        Derived::Step(step) => copy(alloc, &step.clause),
+    }
+}
+
+/// The clause of the cube's denied literals.
+fn denials(alloc: Global, cube: &Cube) -> Result<Clause, AllocError>
+    ensures { IfOk result (λ clause. clause ≡ map denial cube.now) }
+{
+    let mut clause = Vec::with_capacity(alloc, cube.len())?;
+    for l in cube.as_slice() {
+        clause.push(l.denied())?;
+    }
+    Ok(Items::from_vec(clause))
+}
+
+pub fn copies(alloc: Global, clauses: &[Clause]) -> Result<Vec<Clause>, AllocError>
+    ensures { IfOk result (λ copied. copied.items ≡ clauses.now) }
+{
+    let mut copied = Vec::with_capacity(alloc, clauses.len())?;
+    for clause in clauses {
+        copied.push(copy(alloc, clause)?)?;
+    }
+    Ok(copied)
+}

@@ -1,0 +1,19 @@
+// An independent checker of derivations: it accepts a step by its hints and a cube by unit propagation,
+// and its answer that a formula is refuted is a theorem. It finds no derivation; `sat_solver` does.
+#![tactic(auto)]
+
+mod assignment;
+mod checker;
+mod clause_state;
+mod copies;
+mod cube;
+mod decide;
+mod hints;
+mod index;
+mod plain;
+mod propagation;
+#[cfg(test)]
+mod tests;
+mod variables;
+
+pub use checker::{CheckFault, Checker};
