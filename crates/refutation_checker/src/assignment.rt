@@ -2,6 +2,7 @@
 ghost use Rattle.std.specs.Prelude.{◌≡◌, ◌<◌, ◌≤◌, ◌++◌, ◌∷◌, [], Some, length, slice_get, IfOk};
 ghost use Rattle.refutation_checker.specs.Hints.{IsOpen};
 
+use crate::starts::Starts;
 use cnf_core::Lit;
 use std::alloc::{AllocError, Global};
 use std::marker::Model;
@@ -25,11 +26,13 @@ impl From<bool> for Truth {
     }
 }
 
-/// A row of `width` variables with the literals set so far, in order. Only `new` takes memory.
+/// A row of `width` variables with the literals set so far, in order, and where to start in each clause.
+/// Only `new` and `set_start` take memory.
 #[derive(Drop)]
 pub struct Assignment {
     values: Vec<Truth>,
     trail: Vec<Lit>,
+    starts: Starts,
 }
 
 impl Model for Assignment {
@@ -53,6 +56,7 @@ impl Assignment {
         Ok(Assignment {
             values: vec![in alloc; Truth::Open; width]?,
             trail: Vec::with_capacity(alloc, width)?,
+            starts: Starts::new(alloc),
         })
     }
 
@@ -94,6 +98,18 @@ impl Assignment {
         if let Err(_) = self.trail.push(l) {
             unreachable!()
         }
+    }
+
+    /// Where the next look at the clause starts.
+    pub fn start(&self, clause: usize) -> usize {
+        self.starts.of(clause)
+    }
+
+    pub fn set_start(&mut self, clause: usize, place: usize)
+        ensures width { self.new.width ≡ self.old.width }
+        ensures trail { self.new.trail ≡ self.old.trail }
+    {
+        self.starts.set(clause, place);
     }
 
     /// Opens each variable.
