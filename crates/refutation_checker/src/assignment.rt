@@ -27,7 +27,7 @@ impl From<bool> for Truth {
 }
 
 /// A row of `width` variables with the literals set so far, in order, and where to start in each clause.
-/// Only `new` and `set_start` take memory.
+/// Only `new` and `add_clause` take memory.
 #[derive(Drop)]
 pub struct Assignment {
     values: Vec<Truth>,
@@ -49,14 +49,15 @@ impl Model for Assignment {
 impl Assignment {
     ghost use Rattle.refutation_checker.specs.Assigned.{StandsAs};
 
-    pub fn new(alloc: Global, width: usize) -> Result<Assignment, AllocError>
+    /// The row with nothing set, for so many clauses.
+    pub fn new(alloc: Global, width: usize, clauses: usize) -> Result<Assignment, AllocError>
         ensures width { IfOk result (λ a. a.width ≡ width) }
         ensures trail { IfOk result (λ a. a.trail ≡ []) }
     {
         Ok(Assignment {
             values: vec![in alloc; Truth::Open; width]?,
             trail: Vec::with_capacity(alloc, width)?,
-            starts: Starts::new(alloc),
+            starts: Starts::new(alloc, clauses)?,
         })
     }
 
@@ -98,6 +99,13 @@ impl Assignment {
         if let Err(_) = self.trail.push(l) {
             unreachable!()
         }
+    }
+
+    /// Makes room for one more clause.
+    pub fn add_clause(&mut self) -> Result<(), AllocError>
+        ensures { self.new ≡ self.old }
+    {
+        self.starts.add()
     }
 
     /// Where the next look at the clause starts.

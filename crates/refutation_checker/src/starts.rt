@@ -1,37 +1,35 @@
 // Where the next look at a clause starts. It is a hint only: any place is right, and saves time or not.
-ghost use Rattle.std.specs.Prelude.{◌≡◌, slice_index_or};
+use std::alloc::{AllocError, Global};
 
-use std::alloc::Global;
-
-/// For each clause a place in it; 0 for those that are past the end.
+/// For each clause a place in it. Only `new` and `add` take memory.
 #[derive(Drop)]
 pub struct Starts {
     places: Vec<usize>,
 }
 
 impl Starts {
-    pub fn new(alloc: Global) -> Starts {
-        Starts {
-            places: Vec::new(alloc),
-        }
+    /// The first place in each of `count` clauses.
+    pub fn new(alloc: Global, count: usize) -> Result<Starts, AllocError> {
+        Ok(Starts {
+            places: vec![in alloc; 0; count]?,
+        })
     }
 
-    pub fn of(&self, clause: usize) -> usize
-        ensures { result ≡ slice_index_or self.now.places.items clause 0 }
-    {
+    /// The first place in one more clause.
+    pub fn add(&mut self) -> Result<(), AllocError> {
+        self.places.push(0)?;
+        Ok(())
+    }
+
+    /// The clause's place; 0 where there is none.
+    pub fn of(&self, clause: usize) -> usize {
         match self.places.get(clause) {
             Some(place) => *place,
             None => 0,
         }
     }
 
-    /// Where memory is wanting the clause has no place of its own, and each look at it starts at 0.
     pub fn set(&mut self, clause: usize, place: usize) {
-        for _ in self.places.len()..=clause {
-            if let Err(_) = self.places.push(0) {
-                return;
-            }
-        }
         if let Some(old) = self.places.get_mut(clause) {
             *old = place;
         }

@@ -324,8 +324,8 @@ fn set_by_both(
     decided: &[Lit],
 ) -> Result<(Option<usize>, Option<usize>), AllocError> {
     let width = highest_variable(clauses, 3) as usize + 1;
-    let mut plain_row = Assignment::new(alloc, width)?;
-    let mut row = Assignment::new(alloc, width)?;
+    let mut plain_row = Assignment::new(alloc, width, clauses.len())?;
+    let mut row = Assignment::new(alloc, width, clauses.len())?;
     let index = Index::of(alloc, clauses, width, &row)?;
     let inside = decided.iter().all(|l| (l.var as usize) < width);
     if !inside || !decide(&mut plain_row, decided) || !decide(&mut row, decided) {
