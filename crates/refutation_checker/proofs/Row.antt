@@ -113,6 +113,12 @@ pub stands_false : (values : List Truth) (trail : List Lit) (l : Lit) → Agrees
 stands_false values trail l h other =
     (h.on_trail (denial l) other, λ here. not_same l.positive (sym (h.holds_trail l here) ∙ other))
 
+-- a literal whose variable has its sign in the row is true
+pub stands_true : (values : List Truth) (trail : List Lit) (l : Lit) → Agrees values trail →
+    get_or values l.var Open ≡ truth_of l.positive → StandsAs trail l True
+stands_true values trail l h here =
+    (h.on_trail l here, λ other. not_same l.positive (sym here ∙ h.holds_trail (denial l) other))
+
 -- each variable that is set has its literal on the trail
 abbrev pub OnTrail : List Truth → List Lit → Type 0
 OnTrail values trail = (l : Lit) → get_or values l.var Open ≡ truth_of l.positive → Contains trail l

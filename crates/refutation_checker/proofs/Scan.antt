@@ -1,6 +1,6 @@
 -- What the front of a clause says under the literals that were set, and one more literal of the clause.
 use Rattle.std.proofs.Common.{◌≡◌, ◌≢◌, ℕ, List, [], ◌∷◌, ◌++◌, take, drop, refl, sym, ◌∙◌, subst}
-use Rattle.std.specs.Prelude.{Option, Some, None, All, Contains}
+use Rattle.std.specs.Prelude.{⊤, Option, Some, None, All, Contains}
 use Rattle.std.proofs.lemmas.List.{take-append-drop}
 use Rattle.std.proofs.lemmas.List.Elements.{All-push, All-contains, Contains-push, Contains-append_left}
 use Rattle.cnf_core.specs.declared.formula.Lit.{Lit}
@@ -53,3 +53,8 @@ pub no_unit-open : (trail clause : List Lit) (x y : Lit) → Contains clause x �
 no_unit-open trail clause x y x_stands y_stands x_open y_open differs l unit =
     unit_is trail clause l x unit x_stands x_open.1 (λ x_is.
     unit_is trail clause l y unit y_stands y_open.1 (λ y_is. differs (x_is ∙ sym y_is)))
+
+-- the open literal that is kept stands in the clause
+abbrev pub KeepsOpen : List Lit → List Lit → Option Lit → Type 0
+KeepsOpen trail clause None = ⊤
+KeepsOpen trail clause (Some l) = Contains clause l × IsOpen trail l

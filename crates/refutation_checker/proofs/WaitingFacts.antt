@@ -1,14 +1,14 @@
 -- Clauses that wait along the trail: when a literal is set, when the head moves on, and at the end.
-use Rattle.std.proofs.Common.{◌≡◌, ◌≢◌, ℕ, ◌+◌, ◌<◌, ◌≤◌, ◌⊎◌, Bool, true, false, List, [], ◌∷◌, ◌++◌, zero, suc, length, get_or, take, drop, inl, inr, refl, ap, sym, ◌∙◌, subst, arith, append_assoc, add-one, length-append, drop-cons}
-use Rattle.std.specs.Prelude.{IsTrue, All, Any, Contains, Some, slice_get}
+use Rattle.std.proofs.Common.{◌≡◌, ℕ, ◌+◌, ◌≤◌, ◌⊎◌, List, [], ◌∷◌, ◌++◌, zero, suc, length, get_or, drop, inl, inr, ap, sym, ◌∙◌, subst, arith, append_assoc, add-one, length-append, drop-cons}
+use Rattle.std.specs.Prelude.{All, Contains, Some, slice_get}
 use Rattle.std.proofs.lemmas.Bool.{cases_Bool, both_ways}
-use Rattle.std.proofs.lemmas.Option.{get_or_from_slice_get, slice_get-get_or, slice_get_within}
+use Rattle.std.proofs.lemmas.Option.{get_or_from_slice_get, slice_get_within}
 use Rattle.std.proofs.lemmas.List.{drop-append-le, drop_all, append-nil}
 use Rattle.std.proofs.lemmas.List.Elements.{Contains-push, Contains-push_cases, Contains-append_left, Contains-get_or, All-contains}
 use Rattle.cnf_core.specs.declared.formula.Lit.{Lit}
 use Rattle.cnf_core.specs.Literal.{denial}
-use Rattle.cnf_core.proofs.Literals.{denial-denial, denial-not_itself, no_lit}
-use Rattle.refutation_checker.specs.Hints.{IsFalse, IsOpen, IsUnit}
+use Rattle.cnf_core.proofs.Literals.{denial-denial, denial-not_itself}
+use Rattle.refutation_checker.specs.Hints.{IsFalse, IsUnit}
 use Rattle.refutation_checker.specs.ClauseStates.{IsState}
 use Rattle.refutation_checker.specs.Waiting.{IsAhead, Waits, Settles}
 use Rattle.refutation_checker.specs.declared.clause_state.ClauseState.TheVariants.{Other}

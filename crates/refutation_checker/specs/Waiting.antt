@@ -1,5 +1,5 @@
 -- Propagation along the trail: each clause says nothing, or waits for a literal that is still ahead.
-use Rattle.std.specs.Prelude.{◌≡◌, ℕ, ◌≤◌, ◌⊎◌, ◌++◌, Bool, true, false, List, Some, All, Any, Contains, length, drop, slice_get}
+use Rattle.std.specs.Prelude.{◌≡◌, ℕ, ◌≤◌, ◌⊎◌, Bool, true, false, List, Some, All, Any, Contains, length, drop, slice_get}
 use Rattle.cnf_core.specs.declared.formula.Lit.{Lit}
 use Rattle.cnf_core.specs.Literal.{denial}
 use Rattle.refutation_checker.specs.Hints.{IsFalse}

@@ -2,6 +2,7 @@
 ghost use Rattle.std.specs.Prelude.{◌≡◌, ◌<◌, ◌≤◌, ◌++◌, ◌∷◌, [], Some, length, slice_get, IfOk};
 ghost use Rattle.refutation_checker.specs.Hints.{IsOpen};
 
+use crate::starts::Starts;
 use cnf_core::Lit;
 use std::alloc::{AllocError, Global};
 use std::marker::Model;
@@ -25,11 +26,13 @@ impl From<bool> for Truth {
     }
 }
 
-/// A row of `width` variables with the literals set so far, in order. Only `new` takes memory.
+/// A row of `width` variables with the literals set so far, in order, and where to start in each clause.
+/// Only `new` and `add_clause` take memory.
 #[derive(Drop)]
 pub struct Assignment {
     values: Vec<Truth>,
     trail: Vec<Lit>,
+    starts: Starts,
 }
 
 impl Model for Assignment {
@@ -46,13 +49,15 @@ impl Model for Assignment {
 impl Assignment {
     ghost use Rattle.refutation_checker.specs.Assigned.{StandsAs};
 
-    pub fn new(alloc: Global, width: usize) -> Result<Assignment, AllocError>
+    /// The row with nothing set, for so many clauses.
+    pub fn new(alloc: Global, width: usize, clauses: usize) -> Result<Assignment, AllocError>
         ensures width { IfOk result (λ a. a.width ≡ width) }
         ensures trail { IfOk result (λ a. a.trail ≡ []) }
     {
         Ok(Assignment {
             values: vec![in alloc; Truth::Open; width]?,
             trail: Vec::with_capacity(alloc, width)?,
+            starts: Starts::new(alloc, clauses)?,
         })
     }
 
@@ -94,6 +99,25 @@ impl Assignment {
         if let Err(_) = self.trail.push(l) {
             unreachable!()
         }
+    }
+
+    /// Makes room for one more clause.
+    pub fn add_clause(&mut self) -> Result<(), AllocError>
+        ensures { self.new ≡ self.old }
+    {
+        self.starts.add()
+    }
+
+    /// Where the next look at the clause starts.
+    pub fn start(&self, clause: usize) -> usize {
+        self.starts.of(clause)
+    }
+
+    pub fn set_start(&mut self, clause: usize, place: usize)
+        ensures width { self.new.width ≡ self.old.width }
+        ensures trail { self.new.trail ≡ self.old.trail }
+    {
+        self.starts.set(clause, place);
     }
 
     /// Opens each variable.

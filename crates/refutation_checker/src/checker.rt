@@ -63,7 +63,7 @@ impl Checker {
     {
         let clauses = clauses.as_slice();
         let width = highest_variable(clauses, inputs) as usize + 1;
-        let row = Assignment::new(alloc, width)?;
+        let row = Assignment::new(alloc, width, clauses.len())?;
         let index = Index::of(alloc, clauses, width, &row)?;
         Ok(Checker {
             alloc,
@@ -125,6 +125,7 @@ impl Checker {
         ensures kept { OnErr result (self.new ≡ self.old) }
     {
         let line = copy_step(self.alloc, step)?;
+        self.make_room()?;
         self.add(Derived::Step(line))
     }
 
@@ -134,7 +135,15 @@ impl Checker {
         ensures kept { OnErr result (self.new ≡ self.old) }
     {
         let line = copy(self.alloc, cube)?;
+        self.make_room()?;
         self.add(Derived::Cube(line))
+    }
+
+    /// Takes what propagation needs for one more clause.
+    fn make_room(&mut self) -> Result<(), AllocError>
+        ensures { self.new ≡ self.old }
+    {
+        self.row.add_clause()
     }
 
     fn add(&mut self, line: Derived) -> Result<(), AllocError>

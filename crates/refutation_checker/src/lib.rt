@@ -12,6 +12,7 @@ mod hints;
 mod index;
 mod plain;
 mod propagation;
+mod starts;
 #[cfg(test)]
 mod tests;
 mod variables;

@@ -50,7 +50,7 @@ fn visit(clauses: &[Clause], places: &[usize], row: &mut Assignment) -> bool
         let Some(clause) = clauses.get(*place) else {
             continue;
         };
-        match ClauseState::of(clause.as_slice(), row) {
+        match ClauseState::from_start(clause.as_slice(), *place, row) {
             ClauseState::Denied => return true,
             ClauseState::Unit(l) => row.set(l),
             ClauseState::Other => (),

@@ -324,8 +324,8 @@ fn set_by_both(
     decided: &[Lit],
 ) -> Result<(Option<usize>, Option<usize>), AllocError> {
     let width = highest_variable(clauses, 3) as usize + 1;
-    let mut plain_row = Assignment::new(alloc, width)?;
-    let mut row = Assignment::new(alloc, width)?;
+    let mut plain_row = Assignment::new(alloc, width, clauses.len())?;
+    let mut row = Assignment::new(alloc, width, clauses.len())?;
     let index = Index::of(alloc, clauses, width, &row)?;
     let inside = decided.iter().all(|l| (l.var as usize) < width);
     if !inside || !decide(&mut plain_row, decided) || !decide(&mut row, decided) {
@@ -346,12 +346,28 @@ fn set_by_both(
 
 #[test]
 fn propagates_as_the_plain_program_does(rt: HostRuntime) -> Result<(), Fail> {
-    let formulas: [&[&[i32]]; 5] = [
+    let formulas: [&[&[i32]]; 7] = [
         SQUARE,
         &[&[1, 2], &[-2, 3], &[-3, -1, 2], &[1]],
         &[&[1, 1], &[-1, 2, 2], &[3, -3], &[-2, -1]],
         &[&[1, 2, 3], &[-1, 2], &[-2, 3], &[-3, 1]],
         &[&[-1], &[1, 2, 3], &[-2, -3], &[]],
+        &[
+            &[4, 5, 6, 7, 8, 9],
+            &[-1, -4],
+            &[-1, -5],
+            &[-1, -6],
+            &[-1, -7],
+            &[-1, -8],
+        ],
+        &[
+            &[9, 8, 7, 6, 5, 4],
+            &[-1, -4],
+            &[-1, -5],
+            &[-1, -6],
+            &[-1, -7],
+            &[-1, -8],
+        ],
     ];
     for clauses in formulas {
         let clauses = formula(rt.alloc(), clauses)?;

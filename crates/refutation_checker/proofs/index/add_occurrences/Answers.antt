@@ -1,12 +1,10 @@
 -- Each literal's list gets the place, and no list loses one.
-use Rattle.std.proofs.Common.{◌≡◌, ℕ, ◌+◌, ◌<◌, ◌∷◌, [], ◌++◌, List, length, get_or, take, refl, ap, sym, ◌∙◌, subst, arith}
+use Rattle.std.proofs.Common.{◌≡◌, ℕ, ◌<◌, ◌∷◌, [], ◌++◌, List, length, get_or, take, ap, sym, ◌∙◌, subst, arith}
 use Rattle.std.specs.Prelude.{Contains}
-use Rattle.std.proofs.Math.ListN.{set}
 use Rattle.std.proofs.lemmas.List.{get_or_read, take_more, take_all, length-set}
 use Rattle.std.proofs.lemmas.List.Elements.{Contains-push, Contains-append_left}
 use Rattle.cnf_core.specs.declared.formula.Lit.{Lit}
 use Rattle.cnf_core.proofs.Literals.{no_lit}
-use Rattle.refutation_checker.specs.Occurrences.{Keeps, Occurs, code_of}
 use Rattle.refutation_checker.proofs.Listed.{keeps-itself, keeps-set, occurs-set}
 use Rattle.refutation_checker.proofs.index.add_occurrences.Goals as goal
 

@@ -1,14 +1,13 @@
 -- The loose clauses are visited first, and then those that each literal of the trail makes shorter.
-use Rattle.std.proofs.Common.{◌≡◌, ◌≤◌, ◌<◌, ◌⊎◌, ℕ, ◌+◌, [], List, length, get_or, inl, inr, refl, sym, ◌∙◌, subst, arith}
-use Rattle.std.specs.Prelude.{All, Any, Contains, Some, slice_get}
+use Rattle.std.proofs.Common.{◌≡◌, ◌≤◌, ◌<◌, ℕ, ◌+◌, List, length, get_or, inl, inr, refl, sym, ◌∙◌, subst, arith}
+use Rattle.std.specs.Prelude.{All, Contains, Some, slice_get}
 use Rattle.std.proofs.lemmas.Option.{slice_get-get_or}
 use Rattle.cnf_core.specs.declared.formula.Lit.{Lit}
 use Rattle.cnf_core.specs.Literal.{denial}
-use Rattle.refutation_checker.specs.Hints.{IsFalse}
 use Rattle.refutation_checker.specs.ClauseStates.{IsState}
 use Rattle.refutation_checker.specs.Occurrences.{Occurs}
-use Rattle.refutation_checker.specs.Propagated.{Grew, AreSet}
-use Rattle.refutation_checker.specs.Waiting.{Waits, Settles}
+use Rattle.refutation_checker.specs.Propagated.{AreSet}
+use Rattle.refutation_checker.specs.Waiting.{Waits}
 use Rattle.refutation_checker.specs.declared.clause_state.ClauseState.TheVariants.{Other}
 use Rattle.refutation_checker.proofs.Fixpoint.{grew-onward, are_set-decided, conflicts-denied, all_set-fixed, no_conflict-fixed}
 use Rattle.refutation_checker.proofs.WaitingFacts.{waits-start, waits-next, waits-end}

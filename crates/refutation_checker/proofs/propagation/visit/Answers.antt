@@ -1,14 +1,13 @@
 -- A clause that is not there, says nothing, or sets a literal is settled; one that is denied ends the visit.
-use Rattle.std.proofs.Common.{◌≡◌, ◌≤◌, ◌<◌, ℕ, ◌+◌, ◌∷◌, [], ◌++◌, List, length, get_or, take, refl, ap, sym, ◌∙◌, subst, arith, length-append}
-use Rattle.std.specs.Prelude.{All, Any, Contains, Some, slice_get}
+use Rattle.std.proofs.Common.{◌≡◌, ◌≤◌, ℕ, ◌+◌, ◌∷◌, [], ◌++◌, List, length, get_or, take, refl, ap, sym, ◌∙◌, subst, arith, length-append}
+use Rattle.std.specs.Prelude.{All, Contains, Some, slice_get}
 use Rattle.std.proofs.lemmas.List.{take_more, take_all}
-use Rattle.std.proofs.lemmas.Option.{slice_get_read, slice_get_within, get_or_from_slice_get}
+use Rattle.std.proofs.lemmas.Option.{slice_get_read}
 use Rattle.cnf_core.specs.declared.formula.Lit.{Lit}
 use Rattle.refutation_checker.specs.Assigned.{Assigned}
 use Rattle.refutation_checker.specs.Hints.{IsFalse, IsUnit}
 use Rattle.refutation_checker.specs.ClauseStates.{IsState}
-use Rattle.refutation_checker.specs.Propagated.{Grew}
-use Rattle.refutation_checker.specs.Waiting.{Settles, Visits}
+use Rattle.refutation_checker.specs.Waiting.{Settles}
 use Rattle.refutation_checker.specs.declared.clause_state.ClauseState.TheVariants.{Other}
 use Rattle.refutation_checker.proofs.Fixpoint.{grew-unit}
 use Rattle.refutation_checker.proofs.WaitingFacts.{settles-absent, settles-other, settles-unit}
@@ -33,15 +32,16 @@ pub returns-in-Denied-clause-visits : goal.returns-in-Denied-clause-visits
 returns-in-Denied-clause-visits c =
     let clauses = c.args.clauses.now in
     let place = get_or c.args.places.now c.loop-place.place-index 0 in
+    let same = c.in-Denied.ensures.trail in
     record {
-      grew = c.loop-place.invariant.grew;
-      longer = c.loop-place.invariant.longer;
+      grew = rw same c.loop-place.invariant.grew;
+      longer = rw same c.loop-place.invariant.longer;
       ends = (
         place,
         c.in-Some.clause.now,
         c.in-Some.ensures.lookup.3.0,
         sym c.in-Some.ensures.lookup.1,
-        subst (All (IsFalse c.loop-place.row.trail)) c.as_slice.ensures c.in-Denied.ensures,
+        subst (All (IsFalse c.from_start.new.row.trail)) c.as_slice.ensures c.in-Denied.ensures.says,
       );
     }
 
@@ -58,13 +58,16 @@ loop-place-preserved c =
     let inside = c.in-Some.ensures.lookup.3.0 in
     let at : slice_get clauses place ≡ Some clause = slice_get_read clauses (length clauses) place clause refl inside c.in-Some.ensures.lookup.1 in
     let stands : Contains clauses clause = (place, inside, sym c.in-Some.ensures.lookup.1) in
-    elim c.match-of.branch [
+    elim c.match-from_start.branch [
       | in-Unit w ↦
           let l = w.in-Unit.l in
-          let unit : IsUnit trail clause l = subst (λ (lits : List Lit). IsUnit trail lits l) c.as_slice.ensures w.in-Unit.ensures in
-          let trail_is : c.match-of.row.trail ≡ trail ++ l ∷ [] = ap (λ (a : Assigned). a.trail) w.row-is ∙ w.set.ensures.trail in
+          let same = w.in-Unit.ensures.trail in
+          let unit : IsUnit trail clause l =
+          subst (λ (t : List Lit). IsUnit t clause l) same (subst (λ (lits : List Lit). IsUnit c.from_start.new.row.trail lits l) c.as_slice.ensures w.in-Unit.ensures.says) in
+          let trail_is : c.match-from_start.row.trail ≡ trail ++ l ∷ [] =
+          ap (λ (a : Assigned). a.trail) w.row-is ∙ w.set.ensures.trail ∙ ap (λ (t : List Lit). t ++ l ∷ []) same in
           record {
-            width = ap (λ (a : Assigned). a.width) w.row-is ∙ w.set.ensures.width ∙ inv.width;
+            width = ap (λ (a : Assigned). a.width) w.row-is ∙ w.set.ensures.width ∙ w.in-Unit.ensures.width ∙ inv.width;
             fits = subst (λ (a : Assigned). length a.trail ≤ a.width) (sym w.row-is) w.set.ensures.fits;
             longer = rw trail_is (omega (arith, length-append trail (l ∷ []), inv.longer));
             grew = rw trail_is (grew-unit clauses old trail clause l inv.grew stands unit);
@@ -72,16 +75,20 @@ loop-place-preserved c =
                 (settles-unit clauses (take i places) place clause old trail l at unit inv.longer inv.settles);
           }
       | in-Other w ↦
-          let says : IsState trail clause Other = subst (λ (lits : List Lit). IsState trail lits Other) c.as_slice.ensures w.in-Other.ensures in
+          let same = w.in-Other.ensures.trail in
+          let says : IsState trail clause Other =
+          subst (λ (t : List Lit). IsState t clause Other) same (subst (λ (lits : List Lit). IsState c.from_start.new.row.trail lits Other) c.as_slice.ensures w.in-Other.ensures.says) in
           let settles : Settles clauses (take (i + 1) places) old trail =
           rw (take_more places i 0 c.loop-place-test.true) (settles-other clauses (take i places) place clause old trail at says inv.settles) in
-          subst (λ (a : Assigned). record {
-            width : a.width ≡ c.args.row.now.width;
-            fits : length a.trail ≤ a.width;
-            longer : length old ≤ length a.trail;
-            grew : Grew clauses old a.trail;
-            settles : Settles clauses (take (i + 1) places) old a.trail;
-          }) (sym w.row-is) (record { width = inv.width; fits = inv.fits; longer = inv.longer; grew = inv.grew; settles = settles })
+          let trail_is : c.match-from_start.row.trail ≡ trail = ap (λ (a : Assigned). a.trail) w.row-is ∙ same in
+          let width_is : c.match-from_start.row.width ≡ c.loop-place.row.width = ap (λ (a : Assigned). a.width) w.row-is ∙ w.in-Other.ensures.width in
+          record {
+            width = width_is ∙ inv.width;
+            fits = rw (trail_is, width_is) inv.fits;
+            longer = rw trail_is inv.longer;
+            grew = rw trail_is inv.grew;
+            settles = rw trail_is settles;
+          }
     ]
 
 pub returns-clause-visits : goal.returns-clause-visits

@@ -1,7 +1,6 @@
 -- A literal of the trail has its variable in the row.
-use Rattle.std.proofs.Common.{◌≡◌, ◌<◌, ◌≤◌, length, sym, subst, arith, ap}
+use Rattle.std.proofs.Common.{◌<◌, length, arith, ap}
 use Rattle.cnf_core.specs.declared.formula.Lit.{Lit}
-use Rattle.cnf_core.proofs.Literals.{no_lit}
 use Rattle.refutation_checker.specs.Assigned.{Assigned}
 use Rattle.refutation_checker.proofs.Row.{within}
 use Rattle.refutation_checker.proofs.assignment.Assignment.nth.Goals as goal

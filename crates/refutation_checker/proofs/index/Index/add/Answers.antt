@@ -1,11 +1,8 @@
 -- A clause that says something before any literal is set is loose.
-use Rattle.std.proofs.Common.{◌≡◌, ◌⊎◌, ℕ, [], ◌++◌, ◌∷◌, List, inl, inr, sym, subst, ap}
-use Rattle.std.specs.Prelude.{Contains, Ok, Err}
-use Rattle.std.proofs.lemmas.List.Elements.{Contains-push}
+use Rattle.std.proofs.Common.{[], List, inl, subst}
 use Rattle.cnf_core.specs.declared.formula.Lit.{Lit}
 use Rattle.refutation_checker.specs.ClauseStates.{IsState}
 use Rattle.refutation_checker.specs.declared.clause_state.ClauseState.TheVariants.{Other}
-use Rattle.refutation_checker.specs.Occurrences.{HasClause}
 use Rattle.refutation_checker.proofs.index.Index.add.Goals as goal
 
 pub returns-in-Other-clause-added : goal.returns-in-Other-clause-added

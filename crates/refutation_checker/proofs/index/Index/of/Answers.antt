@@ -1,5 +1,5 @@
 -- Each clause goes into the index at its place.
-use Rattle.std.proofs.Common.{◌≡◌, ◌≤◌, ℕ, ◌+◌, ◌∷◌, [], ◌++◌, List, length, take, length-take-le, sym, ◌∙◌, subst, arith}
+use Rattle.std.proofs.Common.{List, take, length-take-le, sym, ◌∙◌, subst, arith}
 use Rattle.std.proofs.lemmas.List.{take_more, take_all}
 use Rattle.cnf_core.specs.declared.formula.Lit.{Lit}
 use Rattle.refutation_checker.specs.Occurrences.{Covers, HasClause}
