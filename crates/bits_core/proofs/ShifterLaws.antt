@@ -1,6 +1,7 @@
 -- For a barrel shifter, to the left and to the right.
 use Rattle.std.proofs.Common.{◌≡◌, ℕ, zero, suc, ◌+◌, ◌-◌, ◌*◌, ◌/◌, ◌%◌, ◌^◌, ◌<◌, ◌≤◌, Bool, true, false, List, [], ◌∷◌, ◌++◌, length, drop, replicate, min, refl, sym, ap, ◌∙◌, subst, arith, ⊎_elim, get_or}
-use Rattle.std.specs.Prelude.{map, not, nat_lt, if◌then◌else◌}
+use Rattle.std.specs.Prelude.{map, not, nat_lt, if◌then◌else◌, pos}
+use Rattle.std.specs.Int.{int_div_euclid}
 use Rattle.std.proofs.Math.Nat.{mod-eq_of_lt, div-eq_of_lt, mul-mod_left, pow-succ', mul_assoc}
 use Rattle.std.proofs.lemmas.Bool.{cases_lt, cond-true, cond-false, lt-ltb, le-ltb}
 use Rattle.std.proofs.lemmas.List.{length-map, length-replicate, length-append, length-drop, map-append, drop-map, get_or-take, get_or-drop, get_or-replicate, get_or_append_left, get_or-append_right}
@@ -8,6 +9,7 @@ use Rattle.std.proofs.lemmas.Nat.{pow-add, pow_pos, shr-shr, mul-mod_first}
 use Rattle.bits_core.specs.declared.operator.Op.TheVariants.{Shl, ShrU, ShrS}
 use Rattle.bits_core.specs.BitList.{number_of, sign_bit}
 use Rattle.bits_core.specs.Circuit.{shifted_left, shifted_right, barrel_left, barrel_right}
+use Rattle.bits_core.specs.Number.{signed_value, wrapped}
 use Rattle.bits_core.specs.Operator.{operator_value}
 use Rattle.bits_core.proofs.BitListLaws.{number_of-append, number_of-below, number_of-drop, number_of-not, number_of-zeros, sign_bit_low, sign_bit_high}
 use Rattle.bits_core.proofs.MultiplierLaws.{length-shifted_left, number_of-shifted_left}
@@ -37,6 +39,22 @@ shr-min x w n fits =
     let least : min n w ≡ w = omega arith in
     ap (λ (m : ℕ). x / 2 ^ m) least ∙ div-eq_of_lt fits ∙ sym (div-eq_of_lt (omega (arith, pow_le w n long))))
     (cases_lt n w)
+
+turned_below : (x p : ℕ) → 0 < p → p - 1 - x < p
+turned_below x p some = omega arith
+
+pub shr_signed-min : (x w n : ℕ) → x < 2 ^ w →
+    wrapped w (int_div_euclid (signed_value w x) (pos (2 ^ min n w))) ≡ wrapped w (int_div_euclid (signed_value w x) (pos (2 ^ n)))
+shr_signed-min x w n fits =
+    let turned = 2 ^ w - 1 - x in
+    ⊎_elim
+    (λ (low : x < 2 ^ (w - 1)).
+    sym (shr_low w x (2 ^ min n w) low fits) ∙ shr-min x w n fits ∙ shr_low w x (2 ^ n) low fits)
+    (λ (high : 2 ^ (w - 1) ≤ x).
+    sym (shr_high w x (2 ^ min n w) high fits)
+    ∙ ap (λ (m : ℕ). 2 ^ w - 1 - m) (shr-min turned w n (turned_below x (2 ^ w) (pow_pos w)))
+    ∙ shr_high w x (2 ^ n) high fits)
+    (cases_lt x (2 ^ (w - 1)))
 
 -- ---- the amount that the stages from k on shift by
 
@@ -167,9 +185,6 @@ number_of-barrel_right_ones k xs bs =
     ap number_of (not-barrel_right k xs bs) ∙ number_of-barrel_right k (map not xs) bs
     ∙ ap (λ (n : ℕ). n / 2 ^ (2 ^ k * number_of bs)) (number_of-not xs) in
     turned_back p (number_of (map not out)) (number_of out) below outer ∙ ap (λ (n : ℕ). p - 1 - n) inner
-
-turned_below : (x p : ℕ) → 0 < p → p - 1 - x < p
-turned_below x p some = omega arith
 
 signed_cases : (xs bs : List Bool) → 1 ≤ length xs → (sign : Bool) → sign_bit xs ≡ sign →
     number_of (barrel_right sign 0 xs bs) ≡ operator_value ShrS (length xs) (number_of xs) (length bs) (number_of bs)

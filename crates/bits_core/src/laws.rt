@@ -1,6 +1,7 @@
 //! Laws of the definitions, each the contract of a function that does nothing: what crates above may rest on. The lemmas
 //! of the same content are in `proofs/`, where a proof takes them from.
 ghost use Rattle.std.specs.Prelude.{◌≡◌, ℕ, ℤ, pos, ◌+◌, ◌-◌, ◌*◌, ◌/◌, ◌%◌, ◌^◌, ◌<◌, ◌≤◌, ◌+ℤ◌, ◌-ℤ◌, ◌*ℤ◌, ◌≤ℤ◌, ◌<ℤ◌, Bool, true, false, not, ◌&&◌, ◌||◌, if◌then◌else◌, map, List, ◌++◌, length, take, drop, replicate, slice_index_or, Contains, nat_lt, nat_le, int_lt, int_le, ◌==◌};
+ghost use Rattle.std.specs.Int.{int_div_euclid};
 ghost use Rattle.bits_core.specs.declared.number.Bits.{Bits};
 ghost use Rattle.bits_core.specs.declared.operator.Op.{Op};
 ghost use Rattle.bits_core.specs.declared.operator.Op.TheVariants.{Add, Sub, Mul, AddSatU, SubSatU, AddSatS, SubSatS, And, Or, Xor, Not, Neg, Shl, ShrU, ShrS, Cat};
@@ -56,6 +57,8 @@ pub fn rows_wrap_for_both_readings()
 pub fn amounts_may_be_any()
     ensures left { (w x v y : ℕ) → operator_value Shl w x v y ≡ (x * 2 ^ y) % 2 ^ w }
     ensures right { (w x v y : ℕ) → x < 2 ^ w → operator_value ShrU w x v y ≡ x / 2 ^ y }
+    ensures signed_right { (w x v y : ℕ) → x < 2 ^ w → operator_value ShrS w x v y
+        ≡ wrapped w (int_div_euclid (signed_value w x) (pos (2 ^ y))) }
 {}
 
 /// For terms that take a value apart and put it together: slices that are neighbours join to one, the two at any place to
