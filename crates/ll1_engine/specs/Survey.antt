@@ -1,6 +1,8 @@
 -- What is found out of a table before its rows are judged.
 use Rattle.std.specs.Prelude.{◌≡◌, ℕ, ◌<◌, Bool, ◌↔◌, List, [], ◌∷◌, length, slice_index_or, Option, None, Some}
 use Rattle.ll1_engine.specs.declared.grammar.Row.{Row}
+use Rattle.ll1_engine.specs.declared.survey.Sights.{Sights}
+use Rattle.ll1_engine.specs.declared.survey.Survey.{Survey}
 use Rattle.ll1_engine.specs.Table.{IsRow, IsToken, RowIsBelow}
 use Rattle.ll1_engine.specs.Trees.{DerivesSome, Nullable}
 use Rattle.ll1_engine.specs.First.{BeginsWith, InFirst, InFollow}
@@ -60,17 +62,21 @@ pub record AreSights (count size : ℕ) (g : List Row) (begun follows : List (Li
   pub first_count : length firsts ≡ count
   pub each : (t : ℕ) → t < count → IsSight size g t (slice_index_or begun t []) (slice_index_or follows t []) (slice_index_or firsts t [])
 
+-- and for each token of the table
+abbrev pub AreAllSights : ℕ → List Row → Sights → Type 0
+AreAllSights size g s = AreSights size size g s.begun.items s.follows.items s.firsts.items
+
 -- and for the whole table
-pub record IsSurvey (size : ℕ) (g : List Row) (tokens alive empty : List Bool) (nullables : List (Option ℕ)) (begun follows : List (List Bool)) (firsts : List (List (Option ℕ))) : Type 0 where
-  pub token_count : length tokens ≡ size
-  pub token_marks : MarksTokens size g tokens
-  pub alive_count : length alive ≡ size
-  pub alive_marks : MarksAlive size g alive
-  pub empty_count : length empty ≡ length g
-  pub empty_marks : MarksEmptyRows g empty
-  pub nullable_count : length nullables ≡ size
-  pub nullable_rows : (x : ℕ) → x < size → PicksNullable g x (slice_index_or nullables x None)
-  pub sights : AreSights size size g begun follows firsts
+pub record IsSurvey (size : ℕ) (g : List Row) (s : Survey) : Type 0 where
+  pub token_count : length s.tokens.items ≡ size
+  pub token_marks : MarksTokens size g s.tokens.items
+  pub alive_count : length s.alive.items ≡ size
+  pub alive_marks : MarksAlive size g s.alive.items
+  pub empty_count : length s.empty.items ≡ length g
+  pub empty_marks : MarksEmptyRows g s.empty.items
+  pub nullable_count : length s.nullables ≡ size
+  pub nullable_rows : (x : ℕ) → x < size → PicksNullable g x (slice_index_or s.nullables x None)
+  pub sights : AreAllSights size g s.sights
 
 -- another row of the symbol of row k is marked
 abbrev pub OtherMarked : List Row → ℕ → Row → List Bool → Type 0

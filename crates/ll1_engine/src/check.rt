@@ -6,7 +6,7 @@ ghost use Rattle.ll1_engine.specs.declared.fault.Break.{Break};
 ghost use Rattle.ll1_engine.specs.declared.fault.TableFault.{TableFault};
 ghost use Rattle.ll1_engine.specs.Table.{IsRow, IsToken};
 ghost use Rattle.ll1_engine.specs.Conditions.{IsOther, StandsOnlyFirstIn, MayRank, SharesFirst, Meets, Breaks, place_of, IsGood, IsFirstBreak};
-ghost use Rattle.ll1_engine.specs.Survey.{AreBelow, MarksTokens, MarksEmptyRows, AreSights, IsSurvey, OtherMarked, HasPlainTwin, BeginsAndFollows};
+ghost use Rattle.ll1_engine.specs.Survey.{AreBelow, MarksTokens, MarksEmptyRows, AreAllSights, IsSurvey, OtherMarked, HasPlainTwin, BeginsAndFollows};
 
 use crate::checked::Checked;
 use crate::fault::{Break, CheckFault, TableFault};
@@ -143,7 +143,7 @@ fn may_rank(rows: &[Row], tokens: &[bool], k: usize) -> bool
 /// Whether a token is in FIRST of row `k` and of another row of its symbol.
 fn shares_first(size: usize, rows: &[Row], sights: &Sights, k: usize) -> bool
     requires below { AreBelow size rows.now }
-    requires sights { AreSights size size rows.now sights.now.begun.items sights.now.follows.items sights.now.firsts.items }
+    requires sights { AreAllSights size rows.now sights.now }
     requires row { k < length rows.now }
     ensures { (r : Row) → IsRow rows.now k r → IsTrue result ↔ SharesFirst rows.now k r }
 {
@@ -162,7 +162,7 @@ fn shares_first(size: usize, rows: &[Row], sights: &Sights, k: usize) -> bool
 /// Whether a token is in FIRST of row `k` and in FOLLOW of its symbol.
 fn begins_and_follows(size: usize, rows: &[Row], sights: &Sights, k: usize) -> bool
     requires below { AreBelow size rows.now }
-    requires sights { AreSights size size rows.now sights.now.begun.items sights.now.follows.items sights.now.firsts.items }
+    requires sights { AreAllSights size rows.now sights.now }
     requires row { k < length rows.now }
     ensures { (r : Row) → IsRow rows.now k r → IsTrue result ↔ BeginsAndFollows rows.now r }
 {
@@ -182,7 +182,7 @@ fn begins_and_follows(size: usize, rows: &[Row], sights: &Sights, k: usize) -> b
 /// Whether the left symbol of row `k` derives no list of tokens.
 fn breaks_barren(size: usize, rows: &[Row], seen: &Survey, k: usize) -> bool
     requires below { AreBelow size rows.now }
-    requires seen { IsSurvey size rows.now seen.now.tokens.items seen.now.alive.items seen.now.empty.items seen.now.nullables seen.now.sights.begun.items seen.now.sights.follows.items seen.now.sights.firsts.items }
+    requires seen { IsSurvey size rows.now seen.now }
     requires row { k < length rows.now }
     ensures { (r : Row) → IsRow rows.now k r → MatchBool result (Breaks rows.now k r Break.Barren) (Meets rows.now k r Break.Barren) }
 {
@@ -192,7 +192,7 @@ fn breaks_barren(size: usize, rows: &[Row], seen: &Survey, k: usize) -> bool
 /// Whether row `k` has a rank above 0 that it may not have.
 fn breaks_rank(size: usize, rows: &[Row], seen: &Survey, k: usize) -> bool
     requires below { AreBelow size rows.now }
-    requires seen { IsSurvey size rows.now seen.now.tokens.items seen.now.alive.items seen.now.empty.items seen.now.nullables seen.now.sights.begun.items seen.now.sights.follows.items seen.now.sights.firsts.items }
+    requires seen { IsSurvey size rows.now seen.now }
     requires row { k < length rows.now }
     ensures { (r : Row) → IsRow rows.now k r → MatchBool result (Breaks rows.now k r Break.Rank) (Meets rows.now k r Break.Rank) }
 {
@@ -205,7 +205,7 @@ fn breaks_rank(size: usize, rows: &[Row], seen: &Survey, k: usize) -> bool
 /// Whether row `k` and another row of its symbol derive the empty list.
 fn breaks_nullable(size: usize, rows: &[Row], seen: &Survey, k: usize) -> bool
     requires below { AreBelow size rows.now }
-    requires seen { IsSurvey size rows.now seen.now.tokens.items seen.now.alive.items seen.now.empty.items seen.now.nullables seen.now.sights.begun.items seen.now.sights.follows.items seen.now.sights.firsts.items }
+    requires seen { IsSurvey size rows.now seen.now }
     requires row { k < length rows.now }
     ensures { (r : Row) → IsRow rows.now k r → MatchBool result (Breaks rows.now k r Break.Nullable) (Meets rows.now k r Break.Nullable) }
 {
@@ -218,7 +218,7 @@ fn breaks_nullable(size: usize, rows: &[Row], seen: &Survey, k: usize) -> bool
 /// Whether a token is in FIRST of row `k` and of another row of its symbol.
 fn breaks_first(size: usize, rows: &[Row], seen: &Survey, k: usize) -> bool
     requires below { AreBelow size rows.now }
-    requires seen { IsSurvey size rows.now seen.now.tokens.items seen.now.alive.items seen.now.empty.items seen.now.nullables seen.now.sights.begun.items seen.now.sights.follows.items seen.now.sights.firsts.items }
+    requires seen { IsSurvey size rows.now seen.now }
     requires row { k < length rows.now }
     ensures { (r : Row) → IsRow rows.now k r → MatchBool result (Breaks rows.now k r Break.First) (Meets rows.now k r Break.First) }
 {
@@ -229,7 +229,7 @@ fn breaks_first(size: usize, rows: &[Row], seen: &Survey, k: usize) -> bool
 /// and in FOLLOW of its symbol.
 fn breaks_follow(size: usize, rows: &[Row], seen: &Survey, k: usize) -> bool
     requires below { AreBelow size rows.now }
-    requires seen { IsSurvey size rows.now seen.now.tokens.items seen.now.alive.items seen.now.empty.items seen.now.nullables seen.now.sights.begun.items seen.now.sights.follows.items seen.now.sights.firsts.items }
+    requires seen { IsSurvey size rows.now seen.now }
     requires row { k < length rows.now }
     ensures { (r : Row) → IsRow rows.now k r → MatchBool result (Breaks rows.now k r Break.Follow) (Meets rows.now k r Break.Follow) }
 {
@@ -245,7 +245,7 @@ fn breaks_follow(size: usize, rows: &[Row], seen: &Survey, k: usize) -> bool
 /// The first condition that row `k` breaks.
 fn break_of(size: usize, rows: &[Row], seen: &Survey, k: usize) -> Option<Break>
     requires below { AreBelow size rows.now }
-    requires seen { IsSurvey size rows.now seen.now.tokens.items seen.now.alive.items seen.now.empty.items seen.now.nullables seen.now.sights.begun.items seen.now.sights.follows.items seen.now.sights.firsts.items }
+    requires seen { IsSurvey size rows.now seen.now }
     requires row { k < length rows.now }
     ensures { (r : Row) → IsRow rows.now k r → MatchOption result ((b : Break) → Meets rows.now k r b) (λ b. Breaks rows.now k r b × ((a : Break) → place_of a < place_of b → Meets rows.now k r a)) }
 {
@@ -270,7 +270,7 @@ fn break_of(size: usize, rows: &[Row], seen: &Survey, k: usize) -> Option<Break>
 /// The first row that breaks a condition, with the first that it breaks.
 fn first_break(size: usize, rows: &[Row], seen: &Survey) -> Option<TableFault>
     requires below { AreBelow size rows.now }
-    requires seen { IsSurvey size rows.now seen.now.tokens.items seen.now.alive.items seen.now.empty.items seen.now.nullables seen.now.sights.begun.items seen.now.sights.follows.items seen.now.sights.firsts.items }
+    requires seen { IsSurvey size rows.now seen.now }
     ensures { MatchOption result (IsGood rows.now) (λ fault. IsFirstBreak rows.now fault.row fault.breaks) }
 {
     for row in 0..rows.len() {

@@ -43,7 +43,7 @@ impl<const S: usize, const R: usize> Checked<S, R> {
     pub(crate) fn new(alloc: Global, rows: &[Row], seen: Survey) -> Result<Self, AllocError>
         requires fits { FitsIn S R rows.now }
         requires good { IsGood rows.now }
-        requires seen { IsSurvey S rows.now seen.tokens.items seen.alive.items seen.empty.items seen.nullables seen.sights.begun.items seen.sights.follows.items seen.sights.firsts.items }
+        requires seen { IsSurvey S rows.now seen }
         ensures { IfOk result (λ checked. checked ≡ rows.now) }
     {
         let rows = copied(alloc, rows)?;

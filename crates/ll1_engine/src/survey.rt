@@ -5,7 +5,7 @@ ghost use Rattle.std.specs.Prelude.{◌≡◌, ℕ, ◌<◌, ◌↔◌, List, Bo
 ghost use Rattle.ll1_engine.specs.declared.grammar.Row.{Row};
 ghost use Rattle.ll1_engine.specs.Table.{IsRow, IsToken};
 ghost use Rattle.ll1_engine.specs.Marks.{marked, Has, all_in, begins_in};
-ghost use Rattle.ll1_engine.specs.Survey.{AreBelow, MarksTokens, MarksAlive, MarksNullable, MarksFirst, MarksFollow, PicksMarked, IsSight, AreSights, IsSurvey};
+ghost use Rattle.ll1_engine.specs.Survey.{AreBelow, MarksTokens, MarksAlive, MarksNullable, MarksFirst, MarksFollow, PicksMarked, IsSight, AreAllSights, IsSurvey};
 
 use crate::checked::Choices;
 use crate::grammar::{Row, Symbol, Token};
@@ -210,7 +210,7 @@ fn see_tokens(
     requires sizes { length nullable.now ≡ length tokens.now }
     requires tokens { MarksTokens (length tokens.now) rows.now tokens.now }
     requires nullable { MarksNullable rows.now nullable.now }
-    ensures { IfOk result (λ s. AreSights (length tokens.now) (length tokens.now) rows.now s.begun.items s.follows.items s.firsts.items) }
+    ensures { IfOk result (λ s. AreAllSights (length tokens.now) rows.now s) }
 {
     let mut begun = Vec::new(alloc);
     let mut follows = Vec::new(alloc);
@@ -231,7 +231,7 @@ fn see_tokens(
 /// What is found out of a table of `size` symbols.
 pub(crate) fn survey_of(alloc: Global, size: usize, rows: &[Row]) -> Result<Survey, AllocError>
     requires { AreBelow size rows.now }
-    ensures { IfOk result (λ s. IsSurvey size rows.now s.tokens.items s.alive.items s.empty.items s.nullables s.sights.begun.items s.sights.follows.items s.sights.firsts.items) }
+    ensures { IfOk result (λ s. IsSurvey size rows.now s) }
 {
     let tokens = token_marks(alloc, size, rows)?;
     let alive = alive_marks(alloc, rows, tokens.as_slice())?;
