@@ -8,7 +8,9 @@
 mod bounds;
 mod input;
 mod program;
+mod resolution;
 
 pub use bounds::{Bounds, MAX_BUDGET, MAX_BYTES, MAX_ENTRIES, MAX_STEPS};
 pub use input::{Bytes, Input, MAX_PORT, bounded};
 pub use program::{EgressSpec, MAX_STATEMENTS, Program, Statement, StatementKind};
+pub use resolution::{Resolution, Resolutions};
