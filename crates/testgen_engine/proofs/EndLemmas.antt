@@ -1,11 +1,12 @@
 -- Lemmas on how a call may end.
-use Rattle.std.proofs.Common.{◌≡◌, ℕ, ◌*◌, ◌≤◌, List, [], ◌∷◌, ◌++◌, Option, None, Some, Result, Ok, Err, OnOk, OnErr, IfOk, length, take, ◌⊎◌, inl, inr, refl, ap, sym, ◌∙◌, subst, arith, length-append, length-take}
+use Rattle.std.proofs.Common.{◌≡◌, ℕ, ◌*◌, ◌≤◌, List, [], ◌∷◌, ◌++◌, Option, None, Some, Result, Ok, Err, IfOk, length, take, inl, inr, refl, ap, sym, ◌∙◌, subst, arith, length-append, length-take}
 use Rattle.std.proofs.lemmas.Fmt.{length-decimal-le}
 use Rattle.std.proofs.lemmas.List.{take_all}
 use Rattle.std.specs.Fmt.{decimal}
 use Rattle.std.specs.List.{flat_map, AllByRecursion}
 use Rattle.std.specs.Prelude.{codes}
 use Rattle.std.specs.Result.{MatchResult}
+use Rattle.tg_base.specs.declared.desk.DeskFault.{DeskFault}
 use Rattle.tg_base.specs.declared.desk.Out.{Out}
 use Rattle.tg_base.specs.declared.desk.Out.TheVariants as out
 use Rattle.tg_base.specs.Content.{with_piece}
@@ -20,9 +21,9 @@ use Rattle.p4_program.specs.declared.program.StatementKind.TheVariants.{AssignEg
 use Rattle.testgen_engine.specs.Endings.{HasFile, IsFound, Finishes, Ends, EndsSomehow, IsCutShort, Completes, RefusesWhole, not_built}
 use Rattle.testgen_engine.specs.Findings.{AreRight, IsUndecided, text_of}
 use Rattle.testgen_engine.specs.Notes.{usage_note, read_fault_note, refusal_note}
-use Rattle.testgen_engine.specs.Outputs.{Adds, AddsFronts, AddsNothing, AddsText, AddsTextFront, only}
+use Rattle.testgen_engine.specs.Outputs.{Adds, AddsFronts, AddsText, AddsTextFront, Writes, WritesText, only}
 use Rattle.testgen_engine.specs.Skeleton.{head_text, tail_text, assign_text, drop_text, end_text, line_text, FitsNineBits, StandsFor, IsNotBuilt}
-use Rattle.testgen_engine.specs.Status.{status_of}
+use Rattle.testgen_engine.specs.Status.{status_of, Ended}
 use Rattle.testgen_engine.specs.declared.generate.Status.{Status}
 use Rattle.testgen_engine.specs.declared.generate.Status.TheVariants.{Done}
 use Rattle.testgen_engine.specs.Words.{AsksGen, AsksNothing}
@@ -87,18 +88,18 @@ found_finishes files words name whole p asks has stands text f = record {
 }
 
 -- an outcome with one status, by what holds of it
-pub match_told : {S E : Type 0} {A B Q : Type 0} (P : S → Type 0) (r : Result S E) (status : S) → IfOk r (λ s. s ≡ status) → OnOk r A → OnErr r B → (A → P status) → (B → Q) → MatchResult r P (λ _. Q)
-match_told P (Ok s) status told a b f g = subst P (sym told) (f a)
-match_told P (Err e) status told a b f g = g b
+match_told : {S E : Type 0} {A B Q : Type 0} (P : S → Type 0) (r : Result S E) (status : S) → IfOk r (λ s. s ≡ status) → MatchResult r (λ _. A) (λ _. B) → (A → P status) → (B → Q) → MatchResult r P (λ _. Q)
+match_told P (Ok s) status told a f g = subst P (sym told) (f a)
+match_told P (Err e) status told b f g = g b
 
 -- a source that is a program's: what finishing leaves
-pub answer_found : {E : Type 0} (old new : Out → Option (List ℕ)) (files : Option (List ℕ → Option (List ℕ))) (words : List (List ℕ)) (name whole source : List ℕ) (before now : ℕ) (p : Program)
+pub answer_found : (old new : Out → Option (List ℕ)) (files : Option (List ℕ → Option (List ℕ))) (words : List (List ℕ)) (name whole source : List ℕ) (before now : ℕ) (p : Program)
     → AsksGen words name → HasFile files name whole → source ≡ take 262145 whole → StandsFor source p
-    → (r : Result Status E) → IfOk r (λ s. s ≡ Done) → OnOk r (AddsText old new (IsFound p)) → OnErr r (AddsNothing old new ⊎ AddsTextFront old new (IsFound p))
-    → MatchResult r (λ status. AddsText old new (Ends files words before now (status_of status))) (λ _. IsCutShort files words before now old new)
-answer_found old new files words name whole source before now p asks has e stands r told ok err =
+    → (r : Result Status DeskFault) → IfOk r (λ s. s ≡ Done) → WritesText old new (IsFound p) r
+    → Ended files words before now old new r
+answer_found old new files words name whole source before now p asks has e stands r told writes =
     let finishes = found_finishes files words name whole p asks has (accepted_whole source whole p e stands) in
-    match_told (λ status. AddsText old new (Ends files words before now (status_of status))) r Done told ok err
+    match_told (λ status. AddsText old new (Ends files words before now (status_of status))) r Done told writes
     (adds_map old new (IsFound p) (Ends files words before now 0) (λ text f. inl (finishes text f)))
     (elim [
       | inl nothing ↦ inl nothing
@@ -113,12 +114,12 @@ note_front : (old new : Out → Option (List ℕ)) (note : List ℕ) (P : (Out �
 note_front old new note P p h = record { text = only out.Notes note; adds = h; right = p }
 
 -- a note that ends a call with one status
-pub told_note : {E : Type 0} (old new : Out → Option (List ℕ)) (files : Option (List ℕ → Option (List ℕ))) (words : List (List ℕ)) (before now : ℕ) (note : List ℕ) (status : Status)
+pub told_note : (old new : Out → Option (List ℕ)) (files : Option (List ℕ → Option (List ℕ))) (words : List (List ℕ)) (before now : ℕ) (note : List ℕ) (status : Status)
     → Ends files words before now (status_of status) (only out.Notes note)
-    → (r : Result Status E) → IfOk r (λ s. s ≡ status) → OnOk r (Adds old new (only out.Notes note)) → OnErr r (AddsFronts old new (only out.Notes note))
-    → MatchResult r (λ s. AddsText old new (Ends files words before now (status_of s))) (λ _. IsCutShort files words before now old new)
-told_note old new files words before now note status end r told ok err =
-    match_told (λ s. AddsText old new (Ends files words before now (status_of s))) r status told ok err
+    → (r : Result Status DeskFault) → IfOk r (λ s. s ≡ status) → Writes old new (only out.Notes note) r
+    → Ended files words before now old new r
+told_note old new files words before now note status end r told writes =
+    match_told (λ s. AddsText old new (Ends files words before now (status_of s))) r status told writes
     (note_end old new note (Ends files words before now (status_of status)) end)
     (λ h. inr (note_front old new note (EndsSomehow files words before now) (status_of status, end) h))
 
@@ -168,9 +169,9 @@ cut_from : (first second third : Out → Option (List ℕ)) (files : Option (Lis
 cut_from first second third files words before now stays (inl nothing) = inl (λ o. nothing o ∙ stays o)
 cut_from first second third files words before now stays (inr front) = inr (front_from first second third (EndsSomehow files words before now) stays front)
 
-pub ends_from : {E : Type 0} (r : Result Status E) (first second third : Out → Option (List ℕ)) (files : Option (List ℕ → Option (List ℕ))) (words : List (List ℕ)) (before now : ℕ) → ((o : Out) → second o ≡ first o)
-    → MatchResult r (λ s. AddsText second third (Ends files words before now (status_of s))) (λ _. IsCutShort files words before now second third)
-    → MatchResult r (λ s. AddsText first third (Ends files words before now (status_of s))) (λ _. IsCutShort files words before now first third)
+pub ends_from : (r : Result Status DeskFault) (first second third : Out → Option (List ℕ)) (files : Option (List ℕ → Option (List ℕ))) (words : List (List ℕ)) (before now : ℕ) → ((o : Out) → second o ≡ first o)
+    → Ended files words before now second third r
+    → Ended files words before now first third r
 ends_from (Ok s) first second third files words before now stays h = adds_from first second third (Ends files words before now (status_of s)) stays h
 ends_from (Err e) first second third files words before now stays h = cut_from first second third files words before now stays h
 
@@ -205,3 +206,6 @@ refuses_from (Some files) words rb rn wb wn status old new h = λ name bytes ask
       | inr (inr (inl refuses)) ↦ inl refuses.ended
       | inr (inr (inr fails)) ↦ absurd (no_read fails.rose)
     ]
+
+-- both, for a call that was not cut short
+pub ruleset whole_ends = (completes_from, refuses_from)

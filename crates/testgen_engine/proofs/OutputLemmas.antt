@@ -1,10 +1,11 @@
 -- Lemmas on what calls add to outputs.
-use Rattle.std.proofs.Common.{◌≡◌, ◌≢◌, ℕ, true, false, if◌then◌else◌, List, [], ◌++◌, Option, None, Some, refl, ap, sym, ◌∙◌, subst, append_assoc, rules, Result, Ok, Err, OnOk, OnErr, append-nil}
+use Rattle.std.proofs.Common.{◌≡◌, ◌≢◌, ℕ, true, false, if◌then◌else◌, List, [], ◌++◌, Option, None, Some, refl, ap, sym, ◌∙◌, subst, append_assoc, rules, Result, Ok, Err, IsErr}
+use Rattle.std.proofs.lemmas.Result.{MatchResult-from_err}
 use Rattle.std.proofs.lemmas.Bool.{eqb-true, eq-eqb, false≢true}
 use Rattle.tg_base.specs.declared.desk.Out.{Out}
 use Rattle.tg_base.specs.declared.desk.Out.TheVariants.{Report, Proofs, Test, Notes}
 use Rattle.tg_base.specs.Content.{with_piece}
-use Rattle.testgen_engine.specs.Outputs.{is_same, only, Adds, AddsFronts}
+use Rattle.testgen_engine.specs.Outputs.{is_same, only, Adds, AddsFronts, Writes}
 
 pub with_piece-twice : (o : Option (List ℕ)) (a b : List ℕ) → with_piece (with_piece o a) b ≡ with_piece o (a ++ b)
 with_piece-twice None a b = refl
@@ -62,7 +63,7 @@ only-append out other a b =
     elim (is_same out other) as (λ t. (if t then a else []) ++ (if t then b else []) ≡ (if t then a ++ b else [])) [ true ↦ refl | false ↦ refl ]
 
 -- a text that is equal is added as well
-pub adds_equal : (old new : Out → Option (List ℕ)) (a b : Out → List ℕ) → ((out : Out) → a out ≡ b out) → Adds old new a → Adds old new b
+adds_equal : (old new : Out → Option (List ℕ)) (a b : Out → List ℕ) → ((out : Out) → a out ≡ b out) → Adds old new a → Adds old new b
 adds_equal old new a b e h = λ out. h out ∙ ap (with_piece (old out)) (e out)
 
 -- one more piece of a text for one output
@@ -74,13 +75,8 @@ adds_more first second third out front piece h at others =
     (adds_both first second third _ _ h (adds_piece second third out piece at others))
 
 -- where nothing is written, fronts of any texts are
-pub adds_no_front : (old : Out → Option (List ℕ)) (text : Out → List ℕ) → AddsFronts old old text
+adds_no_front : (old : Out → Option (List ℕ)) (text : Out → List ℕ) → AddsFronts old old text
 adds_no_front old text = λ out. record { front = []; rest = text out; whole = refl; added = sym (with_piece-nil (old out)) }
-
--- a fact holds of an error where it holds
-pub on_err : {T E : Type 0} {P : Type 0} (r : Result T E) → P → OnErr r P
-on_err (Ok x) p = tt
-on_err (Err e) p = p
 
 -- what one call and then a front of another add
 pub fronts_after : (first second third : Out → Option (List ℕ)) (a b : Out → List ℕ) → Adds first second a → AddsFronts second third b → AddsFronts first third (λ out. a out ++ b out)
@@ -104,19 +100,20 @@ fronts_more old new a more all h e = λ out.
       added = f.added;
     }
 
--- a whole text is a front of itself
-pub fronts_whole : (old new : Out → Option (List ℕ)) (a : Out → List ℕ) → Adds old new a → AddsFronts old new a
-fronts_whole old new a h = λ out. record { front = a out; rest = []; whole = sym (append-nil (a out)); added = h out }
-
--- a fact under one outcome, made another
-pub on_ok_map : {T E : Type 0} {P Q : Type 0} (r : Result T E) → (P → Q) → OnOk r P → OnOk r Q
-on_ok_map (Ok x) f p = f p
-on_ok_map (Err e) f p = tt
-
-pub on_err_map : {T E : Type 0} {P Q : Type 0} (r : Result T E) → (P → Q) → OnErr r P → OnErr r Q
-on_err_map (Ok x) f p = tt
-on_err_map (Err e) f p = f p
-
 -- fronts of texts are fronts of equal texts
-pub fronts_equal : (old new : Out → Option (List ℕ)) (a b : Out → List ℕ) → ((out : Out) → a out ≡ b out) → AddsFronts old new a → AddsFronts old new b
+fronts_equal : (old new : Out → Option (List ℕ)) (a b : Out → List ℕ) → ((out : Out) → a out ≡ b out) → AddsFronts old new a → AddsFronts old new b
 fronts_equal old new a b e h = λ out. let f = h out in record { front = f.front; rest = f.rest; whole = sym (e out) ∙ f.whole; added = f.added }
+
+-- a call that fails has written fronts
+pub writes_fronts : {T E : Type 0} (old new : Out → Option (List ℕ)) (text : Out → List ℕ) (r : Result T E) → IsErr r → AddsFronts old new text → Writes old new text r
+writes_fronts old new text r failed h = MatchResult-from_err r (λ _. Adds old new text) (λ _. AddsFronts old new text) failed (λ _. h)
+
+-- a call that fails before it writes
+pub writes_nothing : {T E : Type 0} (old : Out → Option (List ℕ)) (text : Out → List ℕ) (r : Result T E) → IsErr r → Writes old old text r
+writes_nothing old text r failed = writes_fronts old old text r failed (adds_no_front old text)
+
+-- a call that goes on from what was added
+pub writes_after : {T E : Type 0} (first second third : Out → Option (List ℕ)) (a b all : Out → List ℕ) (r : Result T E) → Adds first second a → ((out : Out) → a out ++ b out ≡ all out)
+    → Writes second third b r → Writes first third all r
+writes_after first second third a b all (Ok x) h e k = adds_equal first third _ _ e (adds_both first second third a b h k)
+writes_after first second third a b all (Err x) h e k = fronts_equal first third _ _ e (fronts_after first second third a b h k)

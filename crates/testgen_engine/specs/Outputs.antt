@@ -1,5 +1,5 @@
 -- What a call adds to the outputs of a desk, where it tells them.
-use Rattle.std.specs.Prelude.{◌≡◌, ℕ, ◌==◌, Bool, true, false, List, [], ◌++◌, Option, if◌then◌else◌}
+use Rattle.std.specs.Prelude.{◌≡◌, ℕ, ◌==◌, Bool, true, false, List, [], ◌++◌, ◌⊎◌, Option, Result, MatchResult, if◌then◌else◌}
 use Rattle.tg_base.specs.declared.desk.Out.{Out}
 use Rattle.tg_base.specs.declared.desk.Out.TheVariants.{Report, Proofs, Test, Notes}
 use Rattle.tg_base.specs.Content.{with_piece}
@@ -46,3 +46,11 @@ pub record AddsTextFront (old new : Out → Option (List ℕ)) (IsRight : (Out �
 -- nothing is added
 abbrev pub AddsNothing : (Out → Option (List ℕ)) → (Out → Option (List ℕ)) → Type 0
 AddsNothing old new = (out : Out) → new out ≡ old out
+
+-- a call that writes these texts adds them where it succeeds, and fronts of them where it does not
+abbrev pub Writes : {T E : Type 0} → (Out → Option (List ℕ)) → (Out → Option (List ℕ)) → (Out → List ℕ) → Result T E → Type 0
+Writes old new text result = MatchResult result (λ _. Adds old new text) (λ _. AddsFronts old new text)
+
+-- a call that writes such texts adds them where it succeeds, and nothing or fronts of them where it does not
+abbrev pub WritesText : {T E : Type 0} → (Out → Option (List ℕ)) → (Out → Option (List ℕ)) → ((Out → List ℕ) → Type 0) → Result T E → Type 0
+WritesText old new IsRight result = MatchResult result (λ _. AddsText old new IsRight) (λ _. AddsNothing old new ⊎ AddsTextFront old new IsRight)

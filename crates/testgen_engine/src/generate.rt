@@ -1,15 +1,17 @@
-//! The job of `gen`: from the name of a source to what is written.
-ghost use Rattle.std.specs.Prelude.{◌≡◌, ◌≤◌, ◌⊎◌, ℕ, List, [], ◌∷◌, Option, take, IfOk, OnOk, OnErr, IsErrOf, map, string_bytes};
+//! The job of `gen`: from the name of a source to what is written. A read that fails is told;
+//! `Failed` says here that a write failed.
+ghost use Rattle.std.specs.Prelude.{◌≡◌, ℕ, List, [], ◌∷◌, Option, take, IfOk, map, string_bytes};
 ghost use Rattle.tg_base.specs.declared.desk.Out.TheVariants as out;
-ghost use Rattle.tg_base.specs.Faults.{Rose};
+ghost use Rattle.tg_base.specs.Faults.{HasCause};
 ghost use Rattle.testgen_engine.specs.Endings.{HasFile, AsksFront, IsFound, not_built};
+ghost use Rattle.testgen_engine.specs.Keeps.{KeepsReading};
 ghost use Rattle.testgen_engine.specs.Notes.{usage_note, read_fault_note, refusal_note};
-ghost use Rattle.testgen_engine.specs.Outputs.{Adds, AddsFronts, AddsNothing, AddsText, AddsTextFront, only};
+ghost use Rattle.testgen_engine.specs.Outputs.{Writes, WritesText, only};
 ghost use Rattle.testgen_engine.specs.Status.{status_of, Ended};
 ghost use Rattle.testgen_engine.specs.Words.{AsksGen, AsksNothing};
 
 use crate::decide::decide;
-use crate::output::{Stop, write_all};
+use crate::output::write_all;
 use crate::print::print;
 use crate::skeleton::program_of;
 use crate::source::read_source;
@@ -17,9 +19,9 @@ use crate::words::source_name;
 use p4_program::{Bounds, Program};
 use std::alloc::{AllocError, Global};
 use std::default::Default;
-use tg_base::{Code, Desk, Out, Refusal};
+use tg_base::{Code, Desk, DeskFault, Out, Refusal};
 
-/// How a job ended that was not cut short.
+/// How a call ends.
 #[derive(Clone, Copy, Debug, PartialEq, Eq)]
 pub enum Status {
     /// All was done, and nothing is undecided.
@@ -30,6 +32,10 @@ pub enum Status {
     Refused,
     /// The source could not be read.
     ReadFault,
+    /// An output could not be written.
+    WriteFault,
+    /// Memory ran out.
+    OutOfMemory,
 }
 
 impl Status {
@@ -42,6 +48,8 @@ impl Status {
             Status::WrongWords => 1,
             Status::Refused => 2,
             Status::ReadFault => 4,
+            Status::WriteFault => 5,
+            Status::OutOfMemory => 6,
         }
     }
 }
@@ -57,21 +65,13 @@ fn write_refusal(alloc: Global, refusal: Refusal) -> Result<String, AllocError>
 }
 
 /// Tells that a source is not built.
-fn refuse<D: Desk>(alloc: Global, desk: &mut D) -> Result<Status, Stop>
+#[tactic(auto, using(crate::proofs::OutputLemmas::writes_nothing))]
+fn refuse<D: Desk>(alloc: Global, desk: &mut D) -> Result<Status, DeskFault>
     ensures told { IfOk result (λ status. status ≡ Status.Refused) }
-    ensures ok { OnOk result
-        (Adds (D.written desk.old) (D.written desk.new) (only out.Notes (refusal_note not_built))) }
-    ensures err { OnErr result
-        (AddsFronts (D.written desk.old) (D.written desk.new)
-        (only out.Notes (refusal_note not_built))) }
-    ensures write_fault { IsErrOf result Stop.WriteFault
-        → Rose (D.write_faults desk.old) (D.write_faults desk.new) }
-    ensures no_read_fault { IsErrOf result Stop.ReadFault → ⊥ }
-
-    // What stays.
-    ensures files_stay { D.files desk.new ≡ D.files desk.old }
-    ensures asked_stays { D.asked desk.new ≡ D.asked desk.old }
-    ensures read_faults_stay { D.read_faults desk.new ≡ D.read_faults desk.old }
+    ensures writes { Writes (D.written desk.old) (D.written desk.new)
+        (only out.Notes (refusal_note not_built)) result }
+    ensures cause { HasCause (D.write_faults desk.old) (D.write_faults desk.new) result }
+    ensures stays { KeepsReading D.files D.asked D.read_faults desk.old desk.new }
 {
     let refusal = Refusal {
         code: Code::NotBuilt,
@@ -84,20 +84,12 @@ fn refuse<D: Desk>(alloc: Global, desk: &mut D) -> Result<Status, Stop>
 }
 
 /// Decides a program's statements, and writes what was found.
-fn finish<D: Desk>(alloc: Global, desk: &mut D, program: &Program) -> Result<Status, Stop>
+fn finish<D: Desk>(alloc: Global, desk: &mut D, program: &Program) -> Result<Status, DeskFault>
     ensures told { IfOk result (λ status. status ≡ Status.Done) }
-    ensures ok { OnOk result
-        (AddsText (D.written desk.old) (D.written desk.new) (IsFound program.now)) }
-    ensures err { OnErr result (AddsNothing (D.written desk.old) (D.written desk.new)
-        ⊎ AddsTextFront (D.written desk.old) (D.written desk.new) (IsFound program.now)) }
-    ensures write_fault { IsErrOf result Stop.WriteFault
-        → Rose (D.write_faults desk.old) (D.write_faults desk.new) }
-    ensures no_read_fault { IsErrOf result Stop.ReadFault → ⊥ }
-
-    // What stays.
-    ensures files_stay { D.files desk.new ≡ D.files desk.old }
-    ensures asked_stays { D.asked desk.new ≡ D.asked desk.old }
-    ensures read_faults_stay { D.read_faults desk.new ≡ D.read_faults desk.old }
+    ensures writes { WritesText (D.written desk.old) (D.written desk.new)
+        (IsFound program.now) result }
+    ensures cause { HasCause (D.write_faults desk.old) (D.write_faults desk.new) result }
+    ensures stays { KeepsReading D.files D.asked D.read_faults desk.old desk.new }
 {
     let bounds = Bounds::default();
     let decided = decide(alloc, bounds, program)?;
@@ -106,19 +98,13 @@ fn finish<D: Desk>(alloc: Global, desk: &mut D, program: &Program) -> Result<Sta
 }
 
 /// Answers a source that was read, up to the most bytes that are taken of one.
-fn answer<D: Desk>(alloc: Global, desk: &mut D, source: &[u8]) -> Result<Status, Stop>
+fn answer<D: Desk>(alloc: Global, desk: &mut D, source: &[u8]) -> Result<Status, DeskFault>
     ensures ends { (files : Option (List ℕ → Option (List ℕ))) (words : List (List ℕ))
         (name whole : List ℕ) (before now : ℕ)
         → AsksGen words name → HasFile files name whole → source.now ≡ take 262145 whole
         → Ended files words before now (D.written desk.old) (D.written desk.new) result }
-    ensures write_fault { IsErrOf result Stop.WriteFault
-        → Rose (D.write_faults desk.old) (D.write_faults desk.new) }
-    ensures no_read_fault { IsErrOf result Stop.ReadFault → ⊥ }
-
-    // What stays.
-    ensures files_stay { D.files desk.new ≡ D.files desk.old }
-    ensures asked_stays { D.asked desk.new ≡ D.asked desk.old }
-    ensures read_faults_stay { D.read_faults desk.new ≡ D.read_faults desk.old }
+    ensures cause { HasCause (D.write_faults desk.old) (D.write_faults desk.new) result }
+    ensures stays { KeepsReading D.files D.asked D.read_faults desk.old desk.new }
 {
     match program_of(alloc, source)? {
         Some(program) => finish(alloc, desk, &program),
@@ -127,40 +113,24 @@ fn answer<D: Desk>(alloc: Global, desk: &mut D, source: &[u8]) -> Result<Status,
 }
 
 /// Tells that the source could not be read.
-fn tell_fault<D: Desk>(desk: &mut D) -> Result<Status, Stop>
+fn tell_fault<D: Desk>(desk: &mut D) -> Result<Status, DeskFault>
     ensures told { IfOk result (λ status. status ≡ Status.ReadFault) }
-    ensures ok { OnOk result
-        (Adds (D.written desk.old) (D.written desk.new) (only out.Notes read_fault_note)) }
-    ensures err { OnErr result
-        (AddsFronts (D.written desk.old) (D.written desk.new) (only out.Notes read_fault_note)) }
-    ensures write_fault { IsErrOf result Stop.WriteFault
-        → Rose (D.write_faults desk.old) (D.write_faults desk.new) }
-    ensures no_read_fault { IsErrOf result Stop.ReadFault → ⊥ }
-
-    // What stays.
-    ensures files_stay { D.files desk.new ≡ D.files desk.old }
-    ensures asked_stays { D.asked desk.new ≡ D.asked desk.old }
-    ensures read_faults_stay { D.read_faults desk.new ≡ D.read_faults desk.old }
+    ensures writes { Writes (D.written desk.old) (D.written desk.new)
+        (only out.Notes read_fault_note) result }
+    ensures cause { HasCause (D.write_faults desk.old) (D.write_faults desk.new) result }
+    ensures stays { KeepsReading D.files D.asked D.read_faults desk.old desk.new }
 {
     write_all(desk, Out::Notes, b"read fault\n")?;
     Ok(Status::ReadFault)
 }
 
 /// Tells how the words are spelled.
-fn tell_usage<D: Desk>(desk: &mut D) -> Result<Status, Stop>
+fn tell_usage<D: Desk>(desk: &mut D) -> Result<Status, DeskFault>
     ensures told { IfOk result (λ status. status ≡ Status.WrongWords) }
-    ensures ok { OnOk result
-        (Adds (D.written desk.old) (D.written desk.new) (only out.Notes usage_note)) }
-    ensures err { OnErr result
-        (AddsFronts (D.written desk.old) (D.written desk.new) (only out.Notes usage_note)) }
-    ensures write_fault { IsErrOf result Stop.WriteFault
-        → Rose (D.write_faults desk.old) (D.write_faults desk.new) }
-    ensures no_read_fault { IsErrOf result Stop.ReadFault → ⊥ }
-
-    // What stays.
-    ensures files_stay { D.files desk.new ≡ D.files desk.old }
-    ensures asked_stays { D.asked desk.new ≡ D.asked desk.old }
-    ensures read_faults_stay { D.read_faults desk.new ≡ D.read_faults desk.old }
+    ensures writes { Writes (D.written desk.old) (D.written desk.new)
+        (only out.Notes usage_note) result }
+    ensures cause { HasCause (D.write_faults desk.old) (D.write_faults desk.new) result }
+    ensures stays { KeepsReading D.files D.asked D.read_faults desk.old desk.new }
 {
     write_all(
         desk,
@@ -171,25 +141,23 @@ fn tell_usage<D: Desk>(desk: &mut D) -> Result<Status, Stop>
 }
 
 /// Does the job of `gen` on the source of this name.
-fn generate_from<D: Desk>(alloc: Global, name: &str, desk: &mut D) -> Result<Status, Stop>
+fn generate_from<D: Desk>(alloc: Global, name: &str, desk: &mut D) -> Result<Status, DeskFault>
     ensures ends { (words : List (List ℕ)) → AsksGen words name.now
         → Ended (D.files desk.old) words (D.read_faults desk.old) (D.read_faults desk.new)
         (D.written desk.old) (D.written desk.new) result }
     ensures asked { AsksFront (D.asked desk.old) (D.asked desk.new) (name.now ∷ []) }
-    ensures write_fault { IsErrOf result Stop.WriteFault
-        → Rose (D.write_faults desk.old) (D.write_faults desk.new) }
-    ensures no_read_fault { IsErrOf result Stop.ReadFault → ⊥ }
+    ensures cause { HasCause (D.write_faults desk.old) (D.write_faults desk.new) result }
     ensures files_stay { D.files desk.new ≡ D.files desk.old }
 {
     match read_source(alloc, name, desk) {
         Ok(source) => answer(alloc, desk, source.as_slice()),
-        Err(Stop::ReadFault) => tell_fault(desk),
-        Err(stop) => Err(stop),
+        Err(DeskFault::Failed) => tell_fault(desk),
+        Err(DeskFault::Memory) => Err(DeskFault::Memory),
     }
 }
 
 /// Does the job that the words ask for.
-pub fn run<D: Desk>(alloc: Global, words: &[String], desk: &mut D) -> Result<Status, Stop>
+pub fn run<D: Desk>(alloc: Global, words: &[String], desk: &mut D) -> Result<Status, DeskFault>
     ensures ends { Ended (D.files desk.old) (map string_bytes words.now)
         (D.read_faults desk.old) (D.read_faults desk.new)
         (D.written desk.old) (D.written desk.new) result }
@@ -197,9 +165,7 @@ pub fn run<D: Desk>(alloc: Global, words: &[String], desk: &mut D) -> Result<Sta
         → AsksFront (D.asked desk.old) (D.asked desk.new) (name ∷ []) }
     ensures nothing_asked { AsksNothing (map string_bytes words.now)
         → D.asked desk.new ≡ D.asked desk.old }
-    ensures write_fault { IsErrOf result Stop.WriteFault
-        → Rose (D.write_faults desk.old) (D.write_faults desk.new) }
-    ensures no_read_fault { IsErrOf result Stop.ReadFault → ⊥ }
+    ensures cause { HasCause (D.write_faults desk.old) (D.write_faults desk.new) result }
     ensures files_stay { D.files desk.new ≡ D.files desk.old }
 {
     match source_name(words) {

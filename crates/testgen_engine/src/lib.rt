@@ -29,9 +29,9 @@ ghost use Rattle.testgen_engine.specs.Endings.{Finishes, Misspells, Refuses, Fai
 ghost use Rattle.testgen_engine.specs.Outputs.{AddsText};
 ghost use Rattle.testgen_engine.specs.Words.{AsksGen, AsksNothing};
 
-use generate::run;
+use generate::{Status, run};
 use std::alloc::Global;
-use tg_base::Desk;
+use tg_base::{Desk, DeskFault};
 
 /// Does the job that the words ask for, and answers the status of the process.
 ///
@@ -39,6 +39,7 @@ use tg_base::Desk;
 /// words, 2 the source is refused, 3 something is undecided, 4 the source could not be read, 5 an
 /// output could not be written, 6 want of memory. Where a desk does not tell what it holds, the
 /// clauses claim the texts and the statuses, and not that the desk holds the texts.
+#[tactic(auto, using(crate::proofs::EndLemmas::whole_ends))]
 pub fn testgen<D: Desk>(alloc: Global, words: &[String], desk: &mut D) -> u8
     ensures statuses { result ≤ 6 }
 
@@ -87,8 +88,10 @@ pub fn testgen<D: Desk>(alloc: Global, words: &[String], desk: &mut D) -> u8
 
     ensures files_stay { D.files desk.new ≡ D.files desk.old }
 {
-    match run(alloc, words, desk) {
-        Ok(status) => status.number(),
-        Err(stop) => stop.number(),
-    }
+    let status = match run(alloc, words, desk) {
+        Ok(status) => status,
+        Err(DeskFault::Failed) => Status::WriteFault,
+        Err(DeskFault::Memory) => Status::OutOfMemory,
+    };
+    status.number()
 }

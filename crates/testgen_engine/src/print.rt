@@ -1,23 +1,24 @@
 //! Writing what was found: the tests, and then the report. The log has no record.
-ghost use Rattle.std.specs.Prelude.{◌≡◌, ◌≤◌, IfOk, OnOk, OnErr, IsErrOf, length};
+ghost use Rattle.std.specs.Prelude.{◌≡◌, ◌≤◌, IfOk, length};
 ghost use Rattle.tg_base.specs.declared.desk.Out.TheVariants as out;
-ghost use Rattle.tg_base.specs.Faults.{Rose};
+ghost use Rattle.tg_base.specs.Faults.{HasCause};
 ghost use Rattle.p4_meaning.specs.Verdicts.{credits};
 ghost use Rattle.testgen_engine.specs.Decide.{findings};
 ghost use Rattle.testgen_engine.specs.Findings.{text_of};
-ghost use Rattle.testgen_engine.specs.Outputs.{Adds, AddsFronts, only};
+ghost use Rattle.testgen_engine.specs.Keeps.{KeepsReading};
+ghost use Rattle.testgen_engine.specs.Outputs.{Writes, only};
 ghost use Rattle.testgen_engine.specs.Printing.{tests_text};
 ghost use Rattle.testgen_engine.specs.TestText.{test_text};
 
 use crate::decide::Decided;
-use crate::output::{Stop, write_all};
+use crate::output::write_all;
 use crate::report::write_report;
 use crate::test_text::write_test;
 use p4_meaning::{Test, Verdict};
 use p4_program::{Bounds, Program};
 use sqlite_items::Items;
 use std::alloc::{AllocError, Global};
-use tg_base::{Desk, Numbers, Out};
+use tg_base::{Desk, DeskFault, Numbers, Out};
 
 /// The statements that are credited to a test.
 fn credits_of(alloc: Global, verdicts: &[Verdict], test: u32) -> Result<Numbers, AllocError>
@@ -34,29 +35,19 @@ fn credits_of(alloc: Global, verdicts: &[Verdict], test: u32) -> Result<Numbers,
 }
 
 /// Writes one test.
+#[tactic(auto, using(crate::proofs::OutputLemmas::writes_nothing))]
 fn print_test<D: Desk>(
     alloc: Global,
     desk: &mut D,
     number: u32,
     verdicts: &[Verdict],
     test: &Test,
-) -> Result<(), Stop>
+) -> Result<(), DeskFault>
     requires { length verdicts.now ≤ 2000 }
-    ensures ok { OnOk result
-        (Adds (D.written desk.old) (D.written desk.new)
-        (only (out.Test number) (test_text number (credits verdicts.now number) test.now))) }
-    ensures err { OnErr result
-        (AddsFronts (D.written desk.old) (D.written desk.new)
-        (only (out.Test number) (test_text number (credits verdicts.now number) test.now))) }
-    ensures write_fault { IsErrOf result Stop.WriteFault
-        → Rose (D.write_faults desk.old) (D.write_faults desk.new) }
-    ensures no_read_fault { IsErrOf result Stop.ReadFault → ⊥ }
-    ensures count { D.write_faults desk.old ≤ D.write_faults desk.new }
-
-    // What stays.
-    ensures files_stay { D.files desk.new ≡ D.files desk.old }
-    ensures asked_stays { D.asked desk.new ≡ D.asked desk.old }
-    ensures read_faults_stay { D.read_faults desk.new ≡ D.read_faults desk.old }
+    ensures writes { Writes (D.written desk.old) (D.written desk.new)
+        (only (out.Test number) (test_text number (credits verdicts.now number) test.now)) result }
+    ensures cause { HasCause (D.write_faults desk.old) (D.write_faults desk.new) result }
+    ensures stays { KeepsReading D.files D.asked D.read_faults desk.old desk.new }
 {
     let statements = credits_of(alloc, verdicts, number)?;
     let text = write_test(alloc, number, statements.as_slice(), test)?;
@@ -69,23 +60,13 @@ fn print_tests<D: Desk>(
     desk: &mut D,
     verdicts: &[Verdict],
     tests: &[Test],
-) -> Result<(), Stop>
+) -> Result<(), DeskFault>
     requires verdicts { length verdicts.now ≤ 2000 }
     requires tests { length tests.now ≤ 2000 }
-    ensures ok { OnOk result
-        (Adds (D.written desk.old) (D.written desk.new) (tests_text verdicts.now 1 tests.now)) }
-    ensures err { OnErr result
-        (AddsFronts (D.written desk.old) (D.written desk.new)
-        (tests_text verdicts.now 1 tests.now)) }
-    ensures write_fault { IsErrOf result Stop.WriteFault
-        → Rose (D.write_faults desk.old) (D.write_faults desk.new) }
-    ensures no_read_fault { IsErrOf result Stop.ReadFault → ⊥ }
-    ensures count { D.write_faults desk.old ≤ D.write_faults desk.new }
-
-    // What stays.
-    ensures files_stay { D.files desk.new ≡ D.files desk.old }
-    ensures asked_stays { D.asked desk.new ≡ D.asked desk.old }
-    ensures read_faults_stay { D.read_faults desk.new ≡ D.read_faults desk.old }
+    ensures writes { Writes (D.written desk.old) (D.written desk.new)
+        (tests_text verdicts.now 1 tests.now) result }
+    ensures cause { HasCause (D.write_faults desk.old) (D.write_faults desk.new) result }
+    ensures stays { KeepsReading D.files D.asked D.read_faults desk.old desk.new }
 {
     for (index, test) in tests.iter().enumerate() {
         print_test(alloc, desk, index as u32 + 1, verdicts, test)?;
@@ -94,29 +75,20 @@ fn print_tests<D: Desk>(
 }
 
 /// Writes the tests, and then the report.
+#[tactic(auto, using(crate::proofs::OutputLemmas::writes_nothing))]
 pub fn print<D: Desk>(
     alloc: Global,
     desk: &mut D,
     bounds: Bounds,
     program: &Program,
     decided: &Decided,
-) -> Result<(), Stop>
+) -> Result<(), DeskFault>
     requires verdicts { length decided.now.verdicts ≡ length program.now.statements }
     requires tests { length decided.now.tests ≤ 2000 }
-    ensures ok { OnOk result
-        (Adds (D.written desk.old) (D.written desk.new)
-        (text_of (findings bounds program.now decided.now))) }
-    ensures err { OnErr result
-        (AddsFronts (D.written desk.old) (D.written desk.new)
-        (text_of (findings bounds program.now decided.now))) }
-    ensures write_fault { IsErrOf result Stop.WriteFault
-        → Rose (D.write_faults desk.old) (D.write_faults desk.new) }
-    ensures no_read_fault { IsErrOf result Stop.ReadFault → ⊥ }
-
-    // What stays.
-    ensures files_stay { D.files desk.new ≡ D.files desk.old }
-    ensures asked_stays { D.asked desk.new ≡ D.asked desk.old }
-    ensures read_faults_stay { D.read_faults desk.new ≡ D.read_faults desk.old }
+    ensures writes { Writes (D.written desk.old) (D.written desk.new)
+        (text_of (findings bounds program.now decided.now)) result }
+    ensures cause { HasCause (D.write_faults desk.old) (D.write_faults desk.new) result }
+    ensures stays { KeepsReading D.files D.asked D.read_faults desk.old desk.new }
 {
     let verdicts = decided.verdicts.as_slice();
     let tests = decided.tests.as_slice();

@@ -69,9 +69,7 @@ impl<R: Files, W: Write, N: Write> FileDesk<R, W, N> {
             Out::Notes => write_some(&mut self.notes, piece),
             Out::Proofs => self.made.write_some(&self.files, PROOFS, piece),
             Out::Test(number) => {
-                let name = format!(in self.alloc; "test_{number}.stf").map_err(
-                    |_| DeskFault::Memory,
-                )?;
+                let name = format!(in self.alloc; "test_{number}.stf")?;
                 self.made.write_some(&self.files, name.as_str(), piece)
             }
         }

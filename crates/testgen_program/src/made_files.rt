@@ -50,7 +50,7 @@ impl MadeFiles {
                 .map_err(|_| DeskFault::Failed);
         }
         let file = fs::create(files, name).map_err(|_| DeskFault::Failed)?;
-        let name = String::from_str(self.alloc, name).map_err(|_| DeskFault::Memory)?;
+        let name = String::from_str(self.alloc, name)?;
         match self.names.insert(name) {
             Ok(_) => Ok(file),
             Err(_) => Err(DeskFault::Memory),

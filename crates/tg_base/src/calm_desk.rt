@@ -74,9 +74,8 @@ impl Desk for CalmDesk {
         ensures written_stays { (out : Out) → written_to self.new out ≡ written_to self.old out }
     {
         let bytes = source_or_test(self.name.as_str(), &self.source, &self.test, name);
-        self.session
-            .open(name, bytes)
-            .map_err(|_| DeskFault::Memory)
+        self.session.open(name, bytes)?;
+        Ok(())
     }
 
     fn read(&mut self, into: &mut [u8]) -> Result<usize, DeskFault>
@@ -109,9 +108,7 @@ impl Desk for CalmDesk {
         ensures asked_stays { asked_of self.new ≡ asked_of self.old }
         ensures readable_stays { is_readable self.new ≡ is_readable self.old }
     {
-        self.session
-            .append(out, piece)
-            .map_err(|_| DeskFault::Memory)?;
+        self.session.append(out, piece)?;
         Ok(piece.len())
     }
 }

@@ -2,8 +2,10 @@
 ghost use Rattle.std.specs.Prelude.{◌≡◌, ◌≢◌, ◌↔◌, ℕ, Bool, List, [], ◌∷◌, ◌++◌, ◌||◌, ◌<◌, ◌≤◌, Option, length, take, is_ok, nat_lt, false, IsTrue, OnOk, OnErr, IfOk, IfSome, IsErrOf, MatchResult, if◌then◌else◌};
 ghost use Rattle.tg_base.specs.Faults.{Rose};
 ghost use Rattle.tg_base.specs.Content.{OpensAtStart, Moves, with_name, with_piece, wants_memory};
+ghost use Rattle.tg_base.specs.declared.desk.DeskFault.TheVariants.{Memory};
 ghost use Rattle.tg_base.specs.declared.desk.Out.{Out};
 
+use std::alloc::AllocError;
 use thiserror::Error;
 
 /// Where a piece of text goes.
@@ -28,6 +30,14 @@ pub enum DeskFault {
     /// Memory ran out.
     #[error("out of memory")]
     Memory,
+}
+
+impl From<AllocError> for DeskFault {
+    ghost from_gives = { λ _ fault. fault ≡ Memory };
+
+    fn from(_error: AllocError) -> DeskFault {
+        DeskFault::Memory
+    }
 }
 
 /// Named files to read and outputs to write.

@@ -101,12 +101,11 @@ impl Desk for MemDesk {
         let fails = self.reads.next_fails();
         match file_named(&self.files, name) {
             Some(bytes) if !fails => {
-                self.session
-                    .open(name, bytes)
-                    .map_err(|_| DeskFault::Memory)
+                self.session.open(name, bytes)?;
+                Ok(())
             }
             _ => {
-                self.session.ask(name).map_err(|_| DeskFault::Memory)?;
+                self.session.ask(name)?;
                 self.reads.count_fault();
                 Err(DeskFault::Failed)
             }
@@ -173,9 +172,7 @@ impl Desk for MemDesk {
             self.writes.count_fault();
             return Err(DeskFault::Failed);
         }
-        self.session
-            .append(out, piece)
-            .map_err(|_| DeskFault::Memory)?;
+        self.session.append(out, piece)?;
         Ok(piece.len())
     }
 }

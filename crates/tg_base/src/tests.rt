@@ -13,9 +13,7 @@ fn read_by_twos<D: Desk>(alloc: Global, desk: &mut D, name: &str) -> Result<Vec<
         if count == 0 {
             break;
         }
-        bytes
-            .extend_from_slice(&two[..count])
-            .map_err(|_| DeskFault::Memory)?;
+        bytes.extend_from_slice(&two[..count])?;
     }
     Ok(bytes)
 }

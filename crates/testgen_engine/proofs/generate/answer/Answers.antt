@@ -10,10 +10,10 @@ use Rattle.testgen_engine.proofs.generate.answer.Goals as goal
 pub returns-in-Some-clause-ends : goal.returns-in-Some-clause-ends
 returns-in-Some-clause-ends g c files words name whole before now asks has e =
     let stands = subst (λ r. MatchOption r (IsNotBuilt c.args.source.now) (λ p. StandsFor c.args.source.now p)) c.in-Some.is c.in_ok-program.ensures in
-    answer_found _ _ files words name whole c.args.source.now before now c.in-Some.program asks has e stands c.finish.result c.finish.ensures.told c.finish.ensures.ok c.finish.ensures.err
+    answer_found _ _ files words name whole c.args.source.now before now c.in-Some.program asks has e stands c.finish.result c.finish.ensures.told c.finish.ensures.writes
 
 pub returns-in-None-clause-ends : goal.returns-in-None-clause-ends
 returns-in-None-clause-ends g c files words name whole before now asks has e =
     let none = subst (λ r. MatchOption r (IsNotBuilt c.args.source.now) (λ p. StandsFor c.args.source.now p)) c.in-None.is c.in_ok-program.ensures in
     told_note _ _ files words before now (refusal_note not_built) Refused (refused_end files words name whole c.args.source.now before now asks has e none)
-    c.refuse.result c.refuse.ensures.told c.refuse.ensures.ok c.refuse.ensures.err
+    c.refuse.result c.refuse.ensures.told c.refuse.ensures.writes

@@ -8,14 +8,14 @@ use Rattle.testgen_engine.proofs.generate.generate_from.Goals as goal
 pub returns-in-Ok-clause-ends : goal.returns-in-Ok-clause-ends
 returns-in-Ok-clause-ends g c words asks =
     let source = c.in-Ok.ensures.source in
-    ends_from c.answer.result _ _ _ _ words _ _ c.read_source.ensures.written_stays
+    ends_from c.answer.result _ _ _ _ words _ _ c.read_source.ensures.stays.written_stays
     (c.answer.ensures.ends (g.D.Desk.files c.args.desk.now) words c.args.name.now source.0 (g.D.Desk.read_faults c.args.desk.now) (g.D.Desk.read_faults c.answer.new.desk)
     asks source.1 (c.as_slice.ensures.value ∙ source.2))
 
-pub returns-in-Err-ReadFault-clause-ends : goal.returns-in-Err-ReadFault-clause-ends
-returns-in-Err-ReadFault-clause-ends g c words asks =
+pub returns-in-Err-Failed-clause-ends : goal.returns-in-Err-Failed-clause-ends
+returns-in-Err-Failed-clause-ends g c words asks =
     let before = g.D.Desk.read_faults c.args.desk.now in
-    let rose = subst (λ now. Rose before now) (sym c.tell_fault.ensures.read_faults_stay) (c.in-Err-ReadFault.ensures.read_fault (ap Err c.in-Err-ReadFault.field-0-is)) in
-    ends_from c.tell_fault.result _ _ _ _ words _ _ c.read_source.ensures.written_stays
+    let rose = subst (λ now. Rose before now) (sym c.tell_fault.ensures.stays.read_faults_stay) (c.in-Err-Failed.ensures.cause.failed (ap Err c.in-Err-Failed.field-0-is)) in
+    ends_from c.tell_fault.result _ _ _ _ words _ _ c.read_source.ensures.stays.written_stays
     (told_note _ _ (g.D.Desk.files c.args.desk.now) words before _ read_fault_note ReadFault (fault_end (g.D.Desk.files c.args.desk.now) words c.args.name.now before _ asks rose)
-    c.tell_fault.result c.tell_fault.ensures.told c.tell_fault.ensures.ok c.tell_fault.ensures.err)
+    c.tell_fault.result c.tell_fault.ensures.told c.tell_fault.ensures.writes)

@@ -9,4 +9,4 @@ returns-in-None-clause-ends g c =
     let words = map string_bytes c.args.words.now in
     told_note _ _ (g.D.Desk.files c.args.desk.now) words _ _ usage_note WrongWords
     (usage_end (g.D.Desk.files c.args.desk.now) words _ _ c.in-None.ensures)
-    c.tell_usage.result c.tell_usage.ensures.told c.tell_usage.ensures.ok c.tell_usage.ensures.err
+    c.tell_usage.result c.tell_usage.ensures.told c.tell_usage.ensures.writes

@@ -1,4 +1,5 @@
 use Rattle.std.proofs.Common.{◌≡◌, ◌≤◌, ℕ, ◌++◌, List, length}
+use Rattle.testgen_engine.specs.Keeps.{KeepsReading}
 use Rattle.testgen_engine.specs.Outputs.{Adds, only}
 use Rattle.testgen_engine.proofs.output.write_all.Given as goal
 
@@ -8,9 +9,7 @@ invariant-loop-rest g l =
     record {
       front : (front : List ℕ) × (l.text ≡ front ++ l.rest) × Adds (desk.written l.initial.desk) (desk.written l.desk) (only l.out front);
       count : desk.write_faults l.initial.desk ≤ desk.write_faults l.desk;
-      files : desk.files l.desk ≡ desk.files l.initial.desk;
-      asked : desk.asked l.desk ≡ desk.asked l.initial.desk;
-      read_faults : desk.read_faults l.desk ≡ desk.read_faults l.initial.desk;
+      stays : KeepsReading desk.files desk.asked desk.read_faults l.initial.desk l.desk;
     }
 
 abbrev pub decreases-loop-rest : goal.decreases-loop-rest

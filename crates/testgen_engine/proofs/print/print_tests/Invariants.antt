@@ -1,6 +1,7 @@
 use Rattle.std.proofs.Common.{◌≡◌, ◌≤◌, ℕ, List, ◌++◌, drop}
 use Prim.Native.Nat.{suc}
 use Rattle.tg_base.specs.declared.desk.Out.{Out}
+use Rattle.testgen_engine.specs.Keeps.{KeepsReading}
 use Rattle.testgen_engine.specs.Outputs.{Adds}
 use Rattle.testgen_engine.specs.Printing.{tests_text}
 use Rattle.testgen_engine.proofs.print.print_tests.Given as goal
@@ -13,7 +14,5 @@ invariant-loop-index g l =
           × ((o : Out) → text o ++ tests_text l.verdicts (suc l.index) (drop l.index l.tests) o ≡ tests_text l.verdicts 1 l.tests o)
           × Adds (desk.written l.initial.desk) (desk.written l.desk) text;
       count : desk.write_faults l.initial.desk ≤ desk.write_faults l.desk;
-      files : desk.files l.desk ≡ desk.files l.initial.desk;
-      asked : desk.asked l.desk ≡ desk.asked l.initial.desk;
-      read_faults : desk.read_faults l.desk ≡ desk.read_faults l.initial.desk;
+      stays : KeepsReading desk.files desk.asked desk.read_faults l.initial.desk l.desk;
     }

@@ -1,5 +1,5 @@
 use Rattle.std.proofs.Common.{◌≡◌, ◌≤◌, ◌-◌, IsTrue, [], vec_len}
-use Rattle.tg_base.specs.declared.desk.Out.{Out}
+use Rattle.testgen_engine.specs.Keeps.{KeepsWriting}
 use Rattle.testgen_engine.specs.Source.{MovesOn}
 use Rattle.testgen_engine.proofs.source.read_rest.Given as goal
 
@@ -11,10 +11,8 @@ invariant-loop-desk g l =
       readable : IsTrue (desk.readable l.desk);
       moved : MovesOn (desk.rest l.initial.desk) [] (desk.rest l.desk) l.bytes.items;
       count : desk.read_faults l.initial.desk ≤ desk.read_faults l.desk;
-      files : desk.files l.desk ≡ desk.files l.initial.desk;
+      stays : KeepsWriting desk.files desk.written desk.write_faults l.initial.desk l.desk;
       asked : desk.asked l.desk ≡ desk.asked l.initial.desk;
-      written : (out : Out) → desk.written l.desk out ≡ desk.written l.initial.desk out;
-      write_faults : desk.write_faults l.desk ≡ desk.write_faults l.initial.desk;
     }
 
 abbrev pub decreases-loop-desk : goal.decreases-loop-desk
