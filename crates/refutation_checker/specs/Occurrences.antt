@@ -40,8 +40,10 @@ pub record IsIndexed (width : ℕ) (clauses : List (List Lit)) (index : Index) :
 
 -- each clause that has the literal is at one of the places
 abbrev pub NamesOccurrences : List (List Lit) → Lit → List ℕ → Type 0
-NamesOccurrences clauses l places = (place : ℕ) (clause : List Lit) → slice_get clauses place ≡ Some clause → Contains clause l → Contains places place
+NamesOccurrences clauses l places =
+    (place : ℕ) (clause : List Lit) → slice_get clauses place ≡ Some clause → Contains clause l → Contains places place
 
 -- each clause that says something before any literal is set is at one of the places
 abbrev pub NamesLoose : List (List Lit) → List ℕ → Type 0
-NamesLoose clauses places = (place : ℕ) (clause : List Lit) → slice_get clauses place ≡ Some clause → IsState [] clause Other ⊎ Contains places place
+NamesLoose clauses places =
+    (place : ℕ) (clause : List Lit) → slice_get clauses place ≡ Some clause → IsState [] clause Other ⊎ Contains places place
