@@ -7,7 +7,7 @@ pub mod Apart
 pub mod CubeFacts
 pub mod Sound
 pub mod Declared
-pub mod Indexed
+pub mod CheckedFacts
 pub mod WaitingFacts
 pub mod Listed
 pub mod Found

@@ -1,12 +1,16 @@
 -- What the front of a clause says under the literals that were set, and one more literal of the clause.
-use Rattle.std.proofs.Common.{◌≡◌, ◌≢◌, ℕ, List, [], ◌∷◌, ◌++◌, take, drop, refl, sym, ◌∙◌, subst}
+use Rattle.std.proofs.Common.{◌≡◌, ◌≢◌, ℕ, List, [], ◌∷◌, ◌++◌, suc, take, drop, get_or, inl, inr, refl, sym, ◌∙◌, subst, arith}
 use Rattle.std.specs.Prelude.{⊤, Option, Some, None, All, Contains}
 use Rattle.std.proofs.lemmas.List.{take-append-drop}
-use Rattle.std.proofs.lemmas.List.Elements.{All-push, All-contains, Contains-push, Contains-append_left}
+use Rattle.std.proofs.lemmas.List.Elements.{All-push, All-cons, All-contains, Contains-push, Contains-append_left, Contains-get_or}
 use Rattle.cnf_core.specs.declared.formula.Lit.{Lit}
+use Rattle.cnf_core.specs.Literal.{denial}
+use Rattle.cnf_core.proofs.Literals.{lit-cases}
 use Rattle.refutation_checker.specs.Hints.{IsFalse, IsOpen, IsUnit}
 use Rattle.refutation_checker.specs.Assigned.{StandsAs}
+use Rattle.refutation_checker.specs.ClauseStates.{IsState}
 use Rattle.refutation_checker.specs.declared.assignment.Truth.TheVariants.{True}
+use Rattle.refutation_checker.specs.declared.clause_state.ClauseState.TheVariants.{Other}
 
 -- the literals so far are false, but for the one that is kept
 abbrev pub FrontIs : List Lit → List Lit → Option Lit → Type 0
@@ -58,3 +62,32 @@ no_unit-open trail clause x y x_stands y_stands x_open y_open differs l unit =
 abbrev pub KeepsOpen : List Lit → List Lit → Option Lit → Type 0
 KeepsOpen trail clause None = ⊤
 KeepsOpen trail clause (Some l) = Contains clause l × IsOpen trail l
+
+nothing : (l : Lit) → Contains [] l → ⊥
+nothing l (k, inside, at) = absurd (omega arith)
+
+-- a clause of one literal, however often it stands there, says something before any is set
+pub says-one : (l : Lit) (rest : List Lit) → All (λ k. k ≡ l) rest → IsUnit [] (l ∷ rest) l
+says-one l rest same = record {
+  stands = (0, omega arith, refl);
+  is_open = (nothing l, nothing (denial l));
+  alone = All-cons (λ k. k ≢ l → IsFalse [] k) l rest (λ differs. absurd (differs refl)) (λ k d inside differs. absurd (differs (same k d inside)));
+}
+
+-- where no literal is set, a clause with a unit has no other literal
+pub all_one : (l : Lit) (rest : List Lit) (unit : Lit) → IsUnit [] (l ∷ rest) unit → All (λ k. k ≡ l) rest
+all_one l rest unit h k d inside = is_unit (get_or rest k d) (later (get_or rest k d) (Contains-get_or rest k d inside)) ∙ sym (is_unit l (0, omega arith, refl)) where
+  later : (x : Lit) → Contains rest x → Contains (l ∷ rest) x
+  later x (i, within, at) = (suc i, omega arith, at)
+
+  is_unit : (x : Lit) → Contains (l ∷ rest) x → x ≡ unit
+  is_unit x stands = elim (lit-cases x unit) [
+    | inl same ↦ same
+    | inr differs ↦ absurd (nothing (denial x) (All-contains (λ k. k ≢ unit → IsFalse [] k) (l ∷ rest) x h.alone stands differs))
+  ]
+
+pub waits-two : (l : Lit) (rest : List Lit) → (All (λ k. k ≡ l) rest → ⊥) → IsState [] (l ∷ rest) Other
+waits-two l rest differ = (
+  (λ denied. nothing (denial l) (All-contains (IsFalse []) (l ∷ rest) l denied (0, omega arith, refl))),
+  (λ unit h. differ (all_one l rest unit h)),
+)

@@ -7,5 +7,6 @@ pub mod Propagated
 pub mod Cubes
 pub mod Variables
 pub mod Checked
+pub mod KnownClauses
 pub mod Occurrences
 pub mod Waiting

@@ -74,7 +74,8 @@ impl Assignment {
 
     /// How many literals are set.
     pub fn count(&self) -> usize
-        ensures { result ≡ length self.now.trail }
+        ensures count { result ≡ length self.now.trail }
+        ensures within { result ≤ self.now.width }
     {
         self.trail.len()
     }

@@ -6,13 +6,12 @@ ghost use Rattle.refutation_checker.specs.Acceptance.{FollowsByHints, IsLeastCon
 ghost use Rattle.refutation_checker.specs.Derivation.{known, extended};
 
 use crate::assignment::Assignment;
-use crate::copies::{copies, copy, copy_step, line_clause};
+use crate::clause_database::ClauseDatabase;
+use crate::copies::{copy, copy_step, line_clause};
 use crate::cube::is_least_conflict;
 use crate::hints::follows;
-use crate::index::Index;
-use crate::variables::{declared_variables, highest_variable};
-use cnf_core::{Clause, Clauses, Cube, Derived, Step, Steps};
-use sqlite_items::Items;
+use crate::variables::declared_variables;
+use cnf_core::{Clauses, Cube, Derived, Step};
 use std::alloc::{AllocError, Global};
 use std::marker::Model;
 use thiserror::Error;
@@ -33,11 +32,10 @@ pub struct Checker {
     alloc: Global,
     inputs: u32,
     given: usize,
-    known: Vec<Clause>,
-    derived: Steps,
+    known: ClauseDatabase,
+    derived: Vec<Derived>,
     declared: Vec<bool>,
     row: Assignment,
-    index: Index,
     refuted: bool,
 }
 
@@ -46,11 +44,11 @@ impl Model for Checker {
 
     ghost Value = { Derivation };
 
-    ghost use Rattle.refutation_checker.specs.Checked.{derivation_of, IsIndexed};
+    ghost use Rattle.refutation_checker.specs.Checked.{derivation_of, IsConsistent};
 
     ghost view = { derivation_of };
 
-    ghost invariant = { IsIndexed };
+    ghost invariant = { IsConsistent };
 }
 
 impl Checker {
@@ -62,18 +60,17 @@ impl Checker {
         ensures derived { IfOk result (λ c. c.derived ≡ []) }
     {
         let clauses = clauses.as_slice();
-        let width = highest_variable(clauses, inputs) as usize + 1;
-        let row = Assignment::new(alloc, width, clauses.len())?;
-        let index = Index::of(alloc, clauses, width, &row)?;
+        let known = ClauseDatabase::of(alloc, clauses, inputs)?;
+        let declared = declared_variables(alloc, known.clauses(), inputs, known.width())?;
+        let row = Assignment::new(alloc, known.width(), clauses.len())?;
         Ok(Checker {
             alloc,
             inputs,
             given: clauses.len(),
-            known: copies(alloc, clauses)?,
-            derived: Items::new(alloc),
-            declared: declared_variables(alloc, clauses, inputs, width)?,
+            known,
+            derived: Vec::new(alloc),
+            declared,
             row,
-            index,
             refuted: false,
         })
     }
@@ -98,13 +95,7 @@ impl Checker {
         ensures accepted { OnOk result (self.new ≡ extended self.old (CubeLine cube.now)) }
         ensures kept { OnErr result (self.new ≡ self.old) }
     {
-        if !is_least_conflict(
-            &self.known,
-            &self.index,
-            &mut self.row,
-            self.inputs,
-            cube.as_slice(),
-        ) {
+        if !is_least_conflict(&self.known, &mut self.row, self.inputs, cube.as_slice()) {
             return Err(CheckFault::BadStep);
         }
         self.add_cube(cube).map_err(CheckFault::Memory)
@@ -153,11 +144,9 @@ impl Checker {
     {
         let refutes = is_empty_step(&line);
         let clause = line_clause(self.alloc, &line)?;
-        self.index
-            .add(clause.as_slice(), self.known.len(), &self.row)?;
-        self.known.reserve(1)?;
-        self.derived.push(line)?;
-        if let Err(_) = self.known.push(clause) {
+        self.derived.reserve(1)?;
+        self.known.add(clause)?;
+        if let Err(_) = self.derived.push(line) {
             unreachable!()
         }
         if refutes {

@@ -42,13 +42,3 @@ fn denials(alloc: Global, cube: &Cube) -> Result<Clause, AllocError>
     }
     Ok(Items::from_vec(clause))
 }
-
-pub fn copies(alloc: Global, clauses: &[Clause]) -> Result<Vec<Clause>, AllocError>
-    ensures { IfOk result (λ copied. copied.items ≡ clauses.now) }
-{
-    let mut copied = Vec::with_capacity(alloc, clauses.len())?;
-    for clause in clauses {
-        copied.push(copy(alloc, clause)?)?;
-    }
-    Ok(copied)
-}

@@ -1,45 +1,40 @@
 // Whether a cube conflicts, and needs each of its literals to do so.
-ghost use Rattle.std.specs.Prelude.{◌≡◌, ◌<◌, ◌*◌, [], ◌↔◌, IsTrue, All, length, remove};
+ghost use Rattle.std.specs.Prelude.{◌≡◌, ◌<◌, [], ◌↔◌, IsTrue, All, length, remove};
 ghost use Rattle.cnf_core.specs.Propagation.{Conflicts};
 ghost use Rattle.refutation_checker.specs.Acceptance.{IsLeastConflict, IsEachNeeded};
 ghost use Rattle.refutation_checker.specs.Assigned.{IsWithin};
 ghost use Rattle.refutation_checker.specs.Cubes.{IsLastOpen};
-ghost use Rattle.refutation_checker.specs.Occurrences.{Covers};
 ghost use Rattle.refutation_checker.specs.Derivation.{IsApart, IsInput};
 
 use crate::assignment::{Assignment, Truth};
+use crate::clause_database::ClauseDatabase;
 use crate::decide::decide;
-use crate::index::Index;
 use crate::propagation::propagate;
-use cnf_core::{Clause, Lit};
+use cnf_core::Lit;
 
-/// Whether the cube may follow the clauses. The row is as before.
+/// Whether the cube may follow the known clauses. The row is as before.
 pub fn is_least_conflict(
-    clauses: &[Clause],
-    index: &Index,
+    known: &ClauseDatabase,
     row: &mut Assignment,
     inputs: u32,
     cube: &[Lit],
 ) -> bool
-    requires within { All (IsWithin row.old.width) clauses.now }
-    requires size { length index.now.occurrences.items ≡ 2 * row.old.width }
-    requires covers { Covers index.now.occurrences.items index.now.loose.items clauses.now }
-    requires inputs { inputs < row.old.width }
+    requires width { row.old.width ≡ known.now.width }
     requires nothing_set { row.old.trail ≡ [] }
-    ensures answer { IsTrue result ↔ IsLeastConflict inputs clauses.now cube.now }
-    ensures width { row.new.width ≡ row.old.width }
-    ensures trail { row.new.trail ≡ [] }
+    requires inputs { inputs < known.now.width }
+    ensures answer { IsTrue result ↔ IsLeastConflict inputs known.now.clauses cube.now }
+    ensures row_stays { row.new ≡ row.old }
 {
     if !are_inputs(cube, inputs) {
         return false;
     }
-    if !conflicts(clauses, index, row, cube) {
+    if !conflicts(known, row, cube) {
         return false;
     }
-    if !is_last_open(clauses, index, row, cube) {
+    if !is_last_open(known, row, cube) {
         return false;
     }
-    is_each_needed(clauses, index, row, cube)
+    is_each_needed(known, row, cube)
 }
 
 fn are_inputs(cube: &[Lit], inputs: u32) -> bool
@@ -48,42 +43,36 @@ fn are_inputs(cube: &[Lit], inputs: u32) -> bool
     cube.iter().all(|l| 0 < l.var && l.var <= inputs)
 }
 
-fn conflicts(clauses: &[Clause], index: &Index, row: &mut Assignment, cube: &[Lit]) -> bool
-    requires within { All (IsWithin row.old.width) clauses.now }
-    requires size { length index.now.occurrences.items ≡ 2 * row.old.width }
-    requires covers { Covers index.now.occurrences.items index.now.loose.items clauses.now }
-    requires cube_within { IsWithin row.old.width cube.now }
+fn conflicts(known: &ClauseDatabase, row: &mut Assignment, cube: &[Lit]) -> bool
+    requires width { row.old.width ≡ known.now.width }
     requires nothing_set { row.old.trail ≡ [] }
-    ensures answer { IsTrue result ↔ (IsApart cube.now × Conflicts clauses.now cube.now) }
-    ensures width { row.new.width ≡ row.old.width }
-    ensures trail { row.new.trail ≡ [] }
+    requires cube_within { IsWithin known.now.width cube.now }
+    ensures answer { IsTrue result ↔ (IsApart cube.now × Conflicts known.now.clauses cube.now) }
+    ensures row_stays { row.new ≡ row.old }
 {
     if !decide(row, cube) {
         row.clear();
         return false;
     }
-    let answer = propagate(clauses, index, row);
+    let answer = propagate(known, row);
     row.clear();
     answer
 }
 
-fn is_last_open(clauses: &[Clause], index: &Index, row: &mut Assignment, cube: &[Lit]) -> bool
-    requires within { All (IsWithin row.old.width) clauses.now }
-    requires size { length index.now.occurrences.items ≡ 2 * row.old.width }
-    requires covers { Covers index.now.occurrences.items index.now.loose.items clauses.now }
-    requires cube_within { IsWithin row.old.width cube.now }
-    requires apart { IsApart cube.now }
+fn is_last_open(known: &ClauseDatabase, row: &mut Assignment, cube: &[Lit]) -> bool
+    requires width { row.old.width ≡ known.now.width }
     requires nothing_set { row.old.trail ≡ [] }
-    ensures answer { IsTrue result ↔ IsLastOpen clauses.now cube.now }
-    ensures width { row.new.width ≡ row.old.width }
-    ensures trail { row.new.trail ≡ [] }
+    requires cube_within { IsWithin known.now.width cube.now }
+    requires apart { IsApart cube.now }
+    ensures answer { IsTrue result ↔ IsLastOpen known.now.clauses cube.now }
+    ensures row_stays { row.new ≡ row.old }
 {
     let Some((last, rest)) = cube.split_last() else {
         return false;
     };
     let decided = decide(row, rest);
     prove!(decided);
-    if propagate(clauses, index, row) {
+    if propagate(known, row) {
         row.clear();
         return false;
     }
@@ -92,48 +81,36 @@ fn is_last_open(clauses: &[Clause], index: &Index, row: &mut Assignment, cube: &
     matches!(truth, Truth::Open)
 }
 
-fn is_each_needed(clauses: &[Clause], index: &Index, row: &mut Assignment, cube: &[Lit]) -> bool
-    requires within { All (IsWithin row.old.width) clauses.now }
-    requires size { length index.now.occurrences.items ≡ 2 * row.old.width }
-    requires covers { Covers index.now.occurrences.items index.now.loose.items clauses.now }
-    requires cube_within { IsWithin row.old.width cube.now }
-    requires apart { IsApart cube.now }
+fn is_each_needed(known: &ClauseDatabase, row: &mut Assignment, cube: &[Lit]) -> bool
+    requires width { row.old.width ≡ known.now.width }
     requires nothing_set { row.old.trail ≡ [] }
-    ensures answer { IsTrue result ↔ IsEachNeeded clauses.now cube.now }
-    ensures width { row.new.width ≡ row.old.width }
-    ensures trail { row.new.trail ≡ [] }
+    requires cube_within { IsWithin known.now.width cube.now }
+    requires apart { IsApart cube.now }
+    ensures answer { IsTrue result ↔ IsEachNeeded known.now.clauses cube.now }
+    ensures row_stays { row.new ≡ row.old }
 {
     for i in 0..cube.len() {
-        if conflicts_without(clauses, index, row, cube, i) {
+        if conflicts_without(known, row, cube, i) {
             return false;
         }
     }
     true
 }
 
-fn conflicts_without(
-    clauses: &[Clause],
-    index: &Index,
-    row: &mut Assignment,
-    cube: &[Lit],
-    i: usize,
-) -> bool
-    requires within { All (IsWithin row.old.width) clauses.now }
-    requires size { length index.now.occurrences.items ≡ 2 * row.old.width }
-    requires covers { Covers index.now.occurrences.items index.now.loose.items clauses.now }
-    requires cube_within { IsWithin row.old.width cube.now }
-    requires apart { IsApart cube.now }
+fn conflicts_without(known: &ClauseDatabase, row: &mut Assignment, cube: &[Lit], i: usize) -> bool
+    requires width { row.old.width ≡ known.now.width }
     requires nothing_set { row.old.trail ≡ [] }
+    requires cube_within { IsWithin known.now.width cube.now }
+    requires apart { IsApart cube.now }
     requires place { i < length cube.now }
-    ensures answer { IsTrue result ↔ Conflicts clauses.now (remove cube.now i) }
-    ensures width { row.new.width ≡ row.old.width }
-    ensures trail { row.new.trail ≡ [] }
+    ensures answer { IsTrue result ↔ Conflicts known.now.clauses (remove cube.now i) }
+    ensures row_stays { row.new ≡ row.old }
 {
     let before = decide(row, &cube[..i]);
     prove!(before);
     let after = decide(row, &cube[i + 1..]);
     prove!(after);
-    let answer = propagate(clauses, index, row);
+    let answer = propagate(known, row);
     row.clear();
     answer
 }

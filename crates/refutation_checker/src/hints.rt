@@ -6,19 +6,19 @@ ghost use Rattle.refutation_checker.specs.Hints.{HintsConflict};
 ghost use Rattle.refutation_checker.specs.ClauseStates.{IsHintState};
 
 use crate::assignment::Assignment;
+use crate::clause_database::ClauseDatabase;
 use crate::clause_state::ClauseState;
 use crate::decide::deny;
 use crate::variables::are_declared;
 use cnf_core::{Clause, Step};
 
-/// Whether the step may follow the clauses. The row is as before.
-pub fn follows(clauses: &[Clause], row: &mut Assignment, declared: &[bool], step: &Step) -> bool
-    requires within { All (IsWithin row.old.width) clauses.now }
-    requires declared { length declared.now ≡ row.old.width }
+/// Whether the step may follow the known clauses. The row is as before.
+pub fn follows(known: &ClauseDatabase, row: &mut Assignment, declared: &[bool], step: &Step) -> bool
+    requires width { row.old.width ≡ known.now.width }
+    requires declared { length declared.now ≡ known.now.width }
     requires nothing_set { row.old.trail ≡ [] }
-    ensures answer { IsTrue result ↔ FollowsAmong declared.now clauses.now step.now }
-    ensures width { row.new.width ≡ row.old.width }
-    ensures trail { row.new.trail ≡ [] }
+    ensures answer { IsTrue result ↔ FollowsAmong declared.now known.now.clauses step.now }
+    ensures row_stays { row.new ≡ row.old }
 {
     let clause = step.clause.as_slice();
     if !are_declared(declared, clause) {
@@ -28,17 +28,18 @@ pub fn follows(clauses: &[Clause], row: &mut Assignment, declared: &[bool], step
         row.clear();
         return false;
     }
-    let answer = hints_conflict(clauses, row, step.hints.as_slice());
+    let answer = hints_conflict(known, row, step.hints.as_slice());
     row.clear();
     answer
 }
 
 /// Whether the hints conflict after the literals of the row, which may get more of them.
-fn hints_conflict(clauses: &[Clause], row: &mut Assignment, hints: &[u32]) -> bool
-    requires { All (IsWithin row.old.width) clauses.now }
-    ensures answer { IsTrue result ↔ HintsConflict clauses.now row.old.trail hints.now }
+fn hints_conflict(known: &ClauseDatabase, row: &mut Assignment, hints: &[u32]) -> bool
+    requires { row.old.width ≡ known.now.width }
+    ensures answer { IsTrue result ↔ HintsConflict known.now.clauses row.old.trail hints.now }
     ensures width { row.new.width ≡ row.old.width }
 {
+    let clauses = known.clauses();
     for hint in hints {
         match hint_state(clauses, *hint, row) {
             ClauseState::Denied => return true,

@@ -1,13 +1,13 @@
 // Where literals stand: for each literal the clauses that have it, and the clauses that say something
 // before any literal is set.
-ghost use Rattle.std.specs.Prelude.{◌≡◌, ◌<◌, ◌*◌, ◌^◌, ℕ, [], All, IfOk, OnOk, Contains, length, slice_index_or};
+ghost use Rattle.std.specs.Prelude.{◌≡◌, ◌<◌, ◌↔◌, ◌*◌, ◌^◌, [], All, IsTrue, IfOk, OnOk, Contains, length, slice_index_or};
+ghost use Rattle.std.specs.Bool.{OnFalse};
 ghost use Rattle.cnf_core.specs.declared.formula.Lit.{Lit as Literal};
-ghost use Rattle.refutation_checker.specs.Assigned.{IsWithin};
-ghost use Rattle.refutation_checker.specs.Occurrences.{code_of, Keeps, Covers, Occurs, HasClause};
+ghost use Rattle.refutation_checker.specs.ClauseStates.{IsState};
+ghost use Rattle.refutation_checker.specs.Occurrences.{code_of, Keeps, Occurs, Extends, HasClause};
+ghost use Rattle.refutation_checker.specs.declared.clause_state.ClauseState.TheVariants.{Other};
 
-use crate::assignment::Assignment;
-use crate::clause_state::ClauseState;
-use cnf_core::{Clause, Lit};
+use cnf_core::Lit;
 use sqlite_items::Items;
 use std::alloc::{AllocError, Global};
 
@@ -20,9 +20,9 @@ pub struct Index {
 
 impl Index {
     /// The index of no clauses, over variables below `width`.
-    fn new(alloc: Global, width: usize) -> Result<Index, AllocError>
+    pub fn new(alloc: Global, width: usize) -> Result<Index, AllocError>
         requires { width < 2 ^ 62 }
-        ensures size { IfOk result (λ index. length index.occurrences.items ≡ 2 * width) }
+        ensures { IfOk result (λ index. length index.occurrences.items ≡ 2 * width) }
     {
         Ok(Index {
             occurrences: empty_lists(alloc, width)?,
@@ -30,42 +30,16 @@ impl Index {
         })
     }
 
-    /// The index of the clauses, over the variables of an empty row.
-    pub fn of(
-        alloc: Global,
-        clauses: &[Clause],
-        width: usize,
-        row: &Assignment,
-    ) -> Result<Index, AllocError>
-        requires width { width ≡ row.now.width }
-        requires room { width < 2 ^ 62 }
-        requires within { All (IsWithin row.now.width) clauses.now }
-        requires nothing_set { row.now.trail ≡ [] }
-        ensures size { IfOk result (λ index. length index.occurrences.items ≡ 2 * width) }
-        ensures covers { IfOk result (λ index. Covers index.occurrences.items index.loose.items clauses.now) }
-    {
-        let mut index = Index::new(alloc, width)?;
-        for (place, clause) in clauses.iter().enumerate() {
-            index.add(clause.as_slice(), place, row)?;
-        }
-        Ok(index)
-    }
-
     /// Adds the clause at its place; after an `Err` some of its literals may be there.
-    pub fn add(&mut self, clause: &[Lit], place: usize, row: &Assignment) -> Result<(), AllocError>
-        requires within { IsWithin row.now.width clause.now }
-        requires size { length self.old.occurrences.items ≡ 2 * row.now.width }
-        requires nothing_set { row.now.trail ≡ [] }
-        ensures size { length self.new.occurrences.items ≡ length self.old.occurrences.items }
-        ensures keeps { Keeps self.old.occurrences.items self.new.occurrences.items }
-        ensures keeps_loose { (n : ℕ) → Contains self.old.loose.items n → Contains self.new.loose.items n }
-        ensures added { OnOk result (HasClause self.new.occurrences.items self.new.loose.items clause.now place) }
+    pub fn add(&mut self, clause: &[Lit], place: usize) -> Result<(), AllocError>
+        requires { All (λ l. code_of l < length self.old.occurrences.items) clause.now }
+        ensures extends { Extends self.old self.new }
+        ensures added { OnOk result (HasClause self.new clause.now place) }
     {
         add_occurrences(&mut self.occurrences, clause, place)?;
-        if let ClauseState::Other = ClauseState::of(clause, row) {
-            return Ok(());
+        if is_loose(clause) {
+            self.loose.push(place)?;
         }
-        self.loose.push(place)?;
         Ok(())
     }
 
@@ -116,4 +90,21 @@ fn add_occurrences(
         list.push(place)?;
     }
     Ok(())
+}
+
+/// Whether the clause says something before any literal is set: it has no two different literals.
+fn is_loose(clause: &[Lit]) -> bool
+    ensures says { IsTrue result → ¬ IsState [] clause.now Other }
+    ensures waits { OnFalse result (IsState [] clause.now Other) }
+{
+    match clause.split_first() {
+        Some((first, rest)) => are_all(rest, *first),
+        None => true,
+    }
+}
+
+fn are_all(lits: &[Lit], l: Lit) -> bool
+    ensures { IsTrue result ↔ All (λ k. k ≡ l) lits.now }
+{
+    lits.iter().all(|k| *k == l)
 }

@@ -4,6 +4,7 @@
 
 mod assignment;
 mod checker;
+mod clause_database;
 mod clause_state;
 mod copies;
 mod cube;

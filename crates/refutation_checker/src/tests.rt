@@ -1,9 +1,8 @@
 // The record of the two-variable example and its broken forms, and every set of full clauses over three
 // variables, refuted exactly where no valuation satisfies it.
 use crate::assignment::Assignment;
+use crate::clause_database::ClauseDatabase;
 use crate::decide::decide;
-use crate::index::Index;
-use crate::variables::highest_variable;
 use crate::{CheckFault, Checker, plain, propagation};
 use cnf_core::{Clause, Clauses, Lit, Step};
 use sqlite_items::Items;
@@ -323,10 +322,10 @@ fn set_by_both(
     clauses: &[Clause],
     decided: &[Lit],
 ) -> Result<(Option<usize>, Option<usize>), AllocError> {
-    let width = highest_variable(clauses, 3) as usize + 1;
+    let known = ClauseDatabase::of(alloc, clauses, 3)?;
+    let width = known.width();
     let mut plain_row = Assignment::new(alloc, width, clauses.len())?;
     let mut row = Assignment::new(alloc, width, clauses.len())?;
-    let index = Index::of(alloc, clauses, width, &row)?;
     let inside = decided.iter().all(|l| (l.var as usize) < width);
     if !inside || !decide(&mut plain_row, decided) || !decide(&mut row, decided) {
         return Ok((None, None));
@@ -336,7 +335,7 @@ fn set_by_both(
     } else {
         Some(plain_row.count())
     };
-    let shipped = if propagation::propagate(clauses, &index, &mut row) {
+    let shipped = if propagation::propagate(&known, &mut row) {
         None
     } else {
         Some(row.count())

@@ -12,7 +12,7 @@ returns-clause-answer c =
     let decided : c.decide.new.row.trail ≡ cube = c.if-not-decide.ensures.trail ∙ from_nothing in (
       (λ yes. (
         subst IsApart from_nothing (c.if-not-decide.ensures.answer.0 refl),
-        subst (Conflicts c.args.clauses.now) decided (c.propagate-answer.ensures.conflict.0 yes),
+        subst (Conflicts c.args.known.now.clauses) decided (c.propagate-answer.ensures.conflict.0 yes),
       )),
-      (λ both. c.propagate-answer.ensures.conflict.1 (subst (Conflicts c.args.clauses.now) (sym decided) both.1)),
+      (λ both. c.propagate-answer.ensures.conflict.1 (subst (Conflicts c.args.known.now.clauses) (sym decided) both.1)),
     )

@@ -30,6 +30,6 @@ returns-clause-answer c =
     let cube = c.args.cube.now in
     let parts = left c.args.row.now.trail c.decide-before.new.row.trail cube c.args.i c.requires.nothing_set c.if-prove.ensures.trail in
     let decided : c.decide-after.new.row.trail ≡ remove cube c.args.i = c.if-prove-2.ensures.trail ∙ parts in (
-      (λ yes. subst (Conflicts c.args.clauses.now) decided (c.propagate-answer.ensures.conflict.0 yes)),
-      (λ conflicts. c.propagate-answer.ensures.conflict.1 (subst (Conflicts c.args.clauses.now) (sym decided) conflicts)),
+      (λ yes. subst (Conflicts c.args.known.now.clauses) decided (c.propagate-answer.ensures.conflict.0 yes)),
+      (λ conflicts. c.propagate-answer.ensures.conflict.1 (subst (Conflicts c.args.known.now.clauses) (sym decided) conflicts)),
     )

@@ -12,9 +12,8 @@ returns-then-conflicts_without-clause-answer c =
 
 pub loop-i-preserved : goal.loop-i-preserved
 loop-i-preserved c = record {
-  width = c.conflicts_without.ensures.width ∙ c.loop-i.invariant.width;
-  trail = c.conflicts_without.ensures.trail;
-  needed = below_more (λ (k : ℕ). Conflicts c.args.clauses.now (remove c.args.cube.now k) → ⊥) c.loop-i.i c.loop-i.invariant.needed
+  row_stays = c.conflicts_without.ensures.row_stays ∙ c.loop-i.invariant.row_stays;
+  needed = below_more (λ (k : ℕ). Conflicts c.args.known.now.clauses (remove c.args.cube.now k) → ⊥) c.loop-i.i c.loop-i.invariant.needed
       (λ conflicts. both_ways c.conflicts_without.result c.if-conflicts_without.false (c.conflicts_without.ensures.answer.1 conflicts));
 }
 

@@ -23,14 +23,14 @@ returns-then-propagate-clause-answer c =
     let rest = c.in-Some.rest.now in
     let parts = c.in-Some.ensures.cases.0 in
     let decided : c.decide-decided.new.row.trail ≡ rest = c.if-prove.ensures.trail ∙ ap (λ (t : List Lit). t ++ rest) c.requires.nothing_set in
-    let conflicts = subst (Conflicts c.args.clauses.now) decided (c.propagate.ensures.conflict.0 c.if-propagate.true) in (
+    let conflicts = subst (Conflicts c.args.known.now.clauses) decided (c.propagate.ensures.conflict.0 c.if-propagate.true) in (
       (λ yes. cc),
-      (λ h. absurd (h.3 (subst (Conflicts c.args.clauses.now) (same_from_push rest h.0 c.in-Some.last.now h.1 (sym parts ∙ h.2)).0 conflicts))),
+      (λ h. absurd (h.3 (subst (Conflicts c.args.known.now.clauses) (same_from_push rest h.0 c.in-Some.last.now h.1 (sym parts ∙ h.2)).0 conflicts))),
     )
 
 pub returns-in-Open-clause-answer : goal.returns-in-Open-clause-answer
 returns-in-Open-clause-answer c =
-    let clauses = c.args.clauses.now in
+    let clauses = c.args.known.now.clauses in
     let rest = c.in-Some.rest.now in
     let parts = c.in-Some.ensures.cases.0 in
     let decided : c.decide-decided.new.row.trail ≡ rest = c.if-prove.ensures.trail ∙ ap (λ (t : List Lit). t ++ rest) c.requires.nothing_set in
@@ -44,7 +44,7 @@ returns-in-Open-clause-answer c =
 
 pub returns-in_default-matches-clause-answer : goal.returns-in_default-matches-clause-answer
 returns-in_default-matches-clause-answer c =
-    let clauses = c.args.clauses.now in
+    let clauses = c.args.known.now.clauses in
     let rest = c.in-Some.rest.now in
     let last = c.in-Some.last.now in
     let parts = c.in-Some.ensures.cases.0 in

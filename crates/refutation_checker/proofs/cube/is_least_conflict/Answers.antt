@@ -5,7 +5,7 @@ use Rattle.refutation_checker.proofs.cube.is_least_conflict.Goals as goal
 
 pub returns-then-not-is_last_open-clause-answer : goal.returns-then-not-is_last_open-clause-answer
 returns-then-not-is_last_open-clause-answer c =
-    ((λ yes. cc), (λ least. absurd (both_ways c.is_last_open.result c.if-not-is_last_open.true (c.is_last_open.ensures.answer.1 (last_open c.args.inputs c.args.clauses.now c.args.cube.now least)))))
+    ((λ yes. cc), (λ least. absurd (both_ways c.is_last_open.result c.if-not-is_last_open.true (c.is_last_open.ensures.answer.1 (last_open c.args.inputs c.args.known.now.clauses c.args.cube.now least)))))
 
 pub returns-clause-answer : goal.returns-clause-answer
 returns-clause-answer c =

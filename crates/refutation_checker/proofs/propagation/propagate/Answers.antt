@@ -3,9 +3,7 @@ use Rattle.std.proofs.Common.{◌≡◌, ◌≤◌, ◌<◌, ℕ, ◌+◌, List,
 use Rattle.std.specs.Prelude.{All, Contains, Some, slice_get}
 use Rattle.std.proofs.lemmas.Option.{slice_get-get_or}
 use Rattle.cnf_core.specs.declared.formula.Lit.{Lit}
-use Rattle.cnf_core.specs.Literal.{denial}
 use Rattle.refutation_checker.specs.ClauseStates.{IsState}
-use Rattle.refutation_checker.specs.Occurrences.{Occurs}
 use Rattle.refutation_checker.specs.Propagated.{AreSet}
 use Rattle.refutation_checker.specs.Waiting.{Waits}
 use Rattle.refutation_checker.specs.declared.clause_state.ClauseState.TheVariants.{Other}
@@ -21,7 +19,7 @@ fixed clauses trail head past waits k d inside =
 
 pub returns-then-visit-clause-conflict : goal.returns-then-visit-clause-conflict
 returns-then-visit-clause-conflict c =
-    let clauses = c.args.clauses.now in
+    let clauses = c.args.known.now.clauses in
     let decided = c.args.row.now.trail in
     let visits = c.if-visit.ensures.visits in
     ((λ _. conflicts-denied clauses decided c.visit.new.row.trail (visits.grew.sound decided (are_set-decided clauses decided)) visits.ends), (λ _. refl))
@@ -32,21 +30,16 @@ loop-head-init c =
     let visits = c.if-visit.ensures.visits in
     record {
       width = c.if-visit.ensures.width;
-      fits = c.if-visit.ensures.fits;
       head = omega arith;
       grew = visits.grew;
       waits = λ place clause at.
-          let has = c.requires.covers place clause at in
           visits.ends 0 place clause (omega arith) at
-          (elim has.waits [
-            | inl says ↦ inl (waits-start decided clause says)
-            | inr listed ↦ inr (subst (λ (places : List ℕ). Contains places place) (sym c.loose.ensures) listed)
-          ]);
+          (elim (c.loose.ensures place clause at) [ inl says ↦ inl (waits-start decided clause says) | inr listed ↦ inr listed ]);
     }
 
 pub returns-then-visit-2-clause-conflict : goal.returns-then-visit-2-clause-conflict
 returns-then-visit-2-clause-conflict c =
-    let clauses = c.args.clauses.now in
+    let clauses = c.args.known.now.clauses in
     let decided = c.args.row.now.trail in
     let visits = c.if-visit-2.ensures.visits in
     let grew = grew-onward clauses decided c.loop-head.row.trail c.visit-in-loop-head.new.row.trail c.loop-head.invariant.grew visits.grew in
@@ -54,32 +47,28 @@ returns-then-visit-2-clause-conflict c =
 
 pub loop-head-preserved : goal.loop-head-preserved
 loop-head-preserved c =
-    let clauses = c.args.clauses.now in
+    let clauses = c.args.known.now.clauses in
     let decided = c.args.row.now.trail in
     let trail = c.loop-head.row.trail in
     let head = c.loop-head.head in
     let visits = c.if-visit-2.ensures.visits in
-    let below : head < length trail = omega (arith, c.count.ensures, c.loop-head-test.true) in
+    let below : head < length trail = omega (arith, c.count.ensures.count, c.loop-head-test.true) in
     record {
       width = c.if-visit-2.ensures.width ∙ c.loop-head.invariant.width;
-      fits = c.if-visit-2.ensures.fits;
       head = omega (arith, visits.longer);
       grew = grew-onward clauses decided trail c.visit-in-loop-head.new.row.trail c.loop-head.invariant.grew visits.grew;
       waits = λ place clause at.
           visits.ends (head + 1) place clause (omega arith) at
           (elim (waits-next trail head clause c.nth.result c.nth.ensures.is (c.loop-head.invariant.waits place clause at)) [
             | inl waits ↦ inl waits
-            | inr stands ↦
-                let there : Occurs c.args.index.now.occurrences.items c.denied-denied.result place =
-                subst (λ (l : Lit). Occurs c.args.index.now.occurrences.items l place) (sym c.denied-denied.ensures) ((c.requires.covers place clause at).found (denial c.nth.result) stands) in
-                inr (subst (λ (places : List ℕ). Contains places place) (sym c.occurrences.ensures) there)
+            | inr stands ↦ inr (c.occurrences.ensures place clause at (subst (Contains clause) (sym c.denied-denied.ensures) stands))
           ]);
     }
 
 pub returns-clause-conflict : goal.returns-clause-conflict
 returns-clause-conflict c =
-    let clauses = c.args.clauses.now in
-    let past : length c.loop-head.row.trail ≤ c.loop-head.head = omega (arith, c.count.ensures, c.loop-head-test.false) in (
+    let clauses = c.args.known.now.clauses in
+    let past : length c.loop-head.row.trail ≤ c.loop-head.head = omega (arith, c.count.ensures.count, c.loop-head-test.false) in (
       (λ h. cc),
       (λ conflicts. absurd (no_conflict-fixed clauses c.args.row.now.trail c.loop-head.row.trail c.loop-head.invariant.grew.keeps
           (fixed clauses c.loop-head.row.trail c.loop-head.head past c.loop-head.invariant.waits) conflicts)),
@@ -87,9 +76,9 @@ returns-clause-conflict c =
 
 pub returns-clause-all_set : goal.returns-clause-all_set
 returns-clause-all_set c =
-    let clauses = c.args.clauses.now in
+    let clauses = c.args.known.now.clauses in
     let decided = c.args.row.now.trail in
     let trail = c.loop-head.row.trail in
-    let past : length trail ≤ c.loop-head.head = omega (arith, c.count.ensures, c.loop-head-test.false) in
+    let past : length trail ≤ c.loop-head.head = omega (arith, c.count.ensures.count, c.loop-head-test.false) in
     let are : AreSet clauses decided trail = c.loop-head.invariant.grew.sound decided (are_set-decided clauses decided) in
     all_set-fixed clauses decided trail c.loop-head.invariant.grew.keeps are (fixed clauses trail c.loop-head.head past c.loop-head.invariant.waits)

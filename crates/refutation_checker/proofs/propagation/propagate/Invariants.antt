@@ -9,10 +9,9 @@ use Rattle.refutation_checker.proofs.propagation.propagate.Given as goal
 abbrev pub invariant-loop-head : goal.invariant-loop-head
 invariant-loop-head l = record {
   width : l.row.width ≡ l.fn.row.width;
-  fits : length l.row.trail ≤ l.row.width;
   head : l.head ≤ length l.row.trail;
-  grew : Grew l.clauses l.fn.row.trail l.row.trail;
-  waits : (place : ℕ) (clause : List Lit) → slice_get l.clauses place ≡ Some clause → Waits l.row.trail l.head clause;
+  grew : Grew l.known.clauses l.fn.row.trail l.row.trail;
+  waits : (place : ℕ) (clause : List Lit) → slice_get l.known.clauses place ≡ Some clause → Waits l.row.trail l.head clause;
 }
 
 abbrev pub decreases-loop-head : goal.decreases-loop-head

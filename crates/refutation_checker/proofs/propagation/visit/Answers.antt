@@ -1,5 +1,5 @@
 -- A clause that is not there, says nothing, or sets a literal is settled; one that is denied ends the visit.
-use Rattle.std.proofs.Common.{◌≡◌, ◌≤◌, ℕ, ◌+◌, ◌∷◌, [], ◌++◌, List, length, get_or, take, refl, ap, sym, ◌∙◌, subst, arith, length-append}
+use Rattle.std.proofs.Common.{◌≡◌, ℕ, true, false, ◌+◌, ◌∷◌, [], ◌++◌, List, length, get_or, take, refl, ap, sym, ◌∙◌, subst, arith, length-append}
 use Rattle.std.specs.Prelude.{All, Contains, Some, slice_get}
 use Rattle.std.proofs.lemmas.List.{take_more, take_all}
 use Rattle.std.proofs.lemmas.Option.{slice_get_read}
@@ -7,7 +7,7 @@ use Rattle.cnf_core.specs.declared.formula.Lit.{Lit}
 use Rattle.refutation_checker.specs.Assigned.{Assigned}
 use Rattle.refutation_checker.specs.Hints.{IsFalse, IsUnit}
 use Rattle.refutation_checker.specs.ClauseStates.{IsState}
-use Rattle.refutation_checker.specs.Waiting.{Settles}
+use Rattle.refutation_checker.specs.Waiting.{Settles, Visits}
 use Rattle.refutation_checker.specs.declared.clause_state.ClauseState.TheVariants.{Other}
 use Rattle.refutation_checker.proofs.Fixpoint.{grew-unit}
 use Rattle.refutation_checker.proofs.WaitingFacts.{settles-absent, settles-other, settles-unit}
@@ -21,19 +21,18 @@ loop-place-preserved-in_default c =
     let inv = c.loop-place.invariant in
     record {
       width = inv.width;
-      fits = inv.fits;
       longer = inv.longer;
       grew = inv.grew;
       settles = rw (take_more places i 0 c.loop-place-test.true)
-          (settles-absent c.args.clauses.now (take i places) (get_or places i 0) c.args.row.now.trail c.loop-place.row.trail c.in_default.ensures.lookup.3 inv.settles);
+          (settles-absent c.clauses-clauses.result.now (take i places) (get_or places i 0) c.args.row.now.trail c.loop-place.row.trail c.in_default.ensures.lookup.3 inv.settles);
     }
 
 pub returns-in-Denied-clause-visits : goal.returns-in-Denied-clause-visits
 returns-in-Denied-clause-visits c =
-    let clauses = c.args.clauses.now in
+    let clauses = c.clauses-clauses.result.now in
     let place = get_or c.args.places.now c.loop-place.place-index 0 in
     let same = c.in-Denied.ensures.trail in
-    record {
+    subst (λ (cs : List (List Lit)). Visits cs c.args.places.now c.args.row.now.trail c.from_start.new.row.trail true) c.clauses-clauses.ensures.are (record {
       grew = rw same c.loop-place.invariant.grew;
       longer = rw same c.loop-place.invariant.longer;
       ends = (
@@ -43,11 +42,11 @@ returns-in-Denied-clause-visits c =
         sym c.in-Some.ensures.lookup.1,
         subst (All (IsFalse c.from_start.new.row.trail)) c.as_slice.ensures c.in-Denied.ensures.says,
       );
-    }
+    })
 
 pub loop-place-preserved : goal.loop-place-preserved
 loop-place-preserved c =
-    let clauses = c.args.clauses.now in
+    let clauses = c.clauses-clauses.result.now in
     let places = c.args.places.now in
     let i = c.loop-place.place-index in
     let place = get_or places i 0 in
@@ -68,7 +67,6 @@ loop-place-preserved c =
           ap (λ (a : Assigned). a.trail) w.row-is ∙ w.set.ensures.trail ∙ ap (λ (t : List Lit). t ++ l ∷ []) same in
           record {
             width = ap (λ (a : Assigned). a.width) w.row-is ∙ w.set.ensures.width ∙ w.in-Unit.ensures.width ∙ inv.width;
-            fits = subst (λ (a : Assigned). length a.trail ≤ a.width) (sym w.row-is) w.set.ensures.fits;
             longer = rw trail_is (omega (arith, length-append trail (l ∷ []), inv.longer));
             grew = rw trail_is (grew-unit clauses old trail clause l inv.grew stands unit);
             settles = rw (trail_is, take_more places i 0 c.loop-place-test.true)
@@ -84,7 +82,6 @@ loop-place-preserved c =
           let width_is : c.match-from_start.row.width ≡ c.loop-place.row.width = ap (λ (a : Assigned). a.width) w.row-is ∙ w.in-Other.ensures.width in
           record {
             width = width_is ∙ inv.width;
-            fits = rw (trail_is, width_is) inv.fits;
             longer = rw trail_is inv.longer;
             grew = rw trail_is inv.grew;
             settles = rw trail_is settles;
@@ -92,9 +89,10 @@ loop-place-preserved c =
     ]
 
 pub returns-clause-visits : goal.returns-clause-visits
-returns-clause-visits c = record {
-  grew = c.loop-place.invariant.grew;
-  longer = c.loop-place.invariant.longer;
-  ends = subst (λ (front : List ℕ). Settles c.args.clauses.now front c.args.row.now.trail c.loop-place.row.trail)
-      (take_all c.loop-place.place-index c.args.places.now c.loop-place-test.false) c.loop-place.invariant.settles;
-}
+returns-clause-visits c =
+    subst (λ (cs : List (List Lit)). Visits cs c.args.places.now c.args.row.now.trail c.loop-place.row.trail false) c.clauses-clauses.ensures.are (record {
+      grew = c.loop-place.invariant.grew;
+      longer = c.loop-place.invariant.longer;
+      ends = subst (λ (front : List ℕ). Settles c.clauses-clauses.result.now front c.args.row.now.trail c.loop-place.row.trail)
+          (take_all c.loop-place.place-index c.args.places.now c.loop-place-test.false) c.loop-place.invariant.settles;
+    })

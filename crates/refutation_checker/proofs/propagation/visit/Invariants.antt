@@ -7,7 +7,6 @@ use Rattle.refutation_checker.proofs.propagation.visit.Given as goal
 abbrev pub invariant-loop-place : goal.invariant-loop-place
 invariant-loop-place l = record {
   width : l.row.width ≡ l.initial.row.width;
-  fits : length l.row.trail ≤ l.row.width;
   longer : length l.initial.row.trail ≤ length l.row.trail;
   grew : Grew l.clauses l.initial.row.trail l.row.trail;
   settles : Settles l.clauses (take l.place-index l.places) l.initial.row.trail l.row.trail;

@@ -11,7 +11,7 @@ use Rattle.refutation_checker.proofs.checker.Checker.refuted.Goals as goal
 pub returns-clause-sound : goal.returns-clause-sound
 returns-clause-sound c = λ refuted.
     subst (λ (d : Derivation). IsUnsatisfiable d.clauses) c.self.view_is
-    (unsatisfiable-refuted (derivation_of c.self.inside) c.self.invariant.0.accepted (c.self.invariant.0.empty_step.0 refuted))
+    (unsatisfiable-refuted (derivation_of c.self.inside) c.self.invariant.accepted (c.self.invariant.empty_step.0 refuted))
 
 pub returns-clause-answer : goal.returns-clause-answer
-returns-clause-answer c = subst (λ (d : Derivation). IsTrue c.self.inside.refuted ↔ HasEmptyStep d) c.self.view_is c.self.invariant.0.empty_step
+returns-clause-answer c = subst (λ (d : Derivation). IsTrue c.self.inside.refuted ↔ HasEmptyStep d) c.self.view_is c.self.invariant.empty_step

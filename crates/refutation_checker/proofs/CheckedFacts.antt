@@ -1,11 +1,12 @@
--- The index of a checker with one more line.
-use Rattle.std.proofs.Common.{◌≡◌, ℕ, ◌<◌, ◌⊎◌, Bool, true, false, List, [], ◌∷◌, ◌++◌, length, get_or, take, map, inl, inr, refl, ap, sym, ◌∙◌, subst, arith, append_assoc, length-append}
-use Rattle.std.specs.Prelude.{◌↔◌, IsTrue, All, Contains, Some, slice_get}
+-- The fields of a checker with nothing derived, and with one line more.
+use Rattle.std.proofs.Common.{◌≡◌, ℕ, ◌<◌, ◌⊎◌, Bool, true, false, List, [], ◌∷◌, ◌++◌, length, get_or, take, map, inl, inr, ap, sym, ◌∙◌, subst, arith, append_assoc, length-append}
+use Rattle.std.specs.Prelude.{◌↔◌, IsTrue, Contains, Some, Vec, slice_get}
+use Rattle.std.specs.Global.{Global}
 use Rattle.std.proofs.Math.Seq.{get_or-append_seam, take-append_seam}
 use Rattle.std.proofs.lemmas.Bool.{cases_lt}
 use Rattle.std.proofs.lemmas.Option.{get_or_from_slice_get, slice_get-get_or, slice_get_within}
 use Rattle.std.proofs.lemmas.List.{append-nil, take-append-le, take_all, map-append, get_or_append_left, get_or_past}
-use Rattle.std.proofs.lemmas.List.Elements.{All-push, All-map, Contains-push, Contains-push_cases, Contains-append_left}
+use Rattle.std.proofs.lemmas.List.Elements.{All-map, Contains-push, Contains-push_cases, Contains-append_left}
 use Rattle.cnf_core.specs.declared.formula.Lit.{Lit}
 use Rattle.cnf_core.specs.declared.derivation.Step.{Step as StepLine}
 use Rattle.cnf_core.specs.declared.derivation.Derived.{Derived}
@@ -14,9 +15,11 @@ use Rattle.cnf_core.specs.Literal.{denial}
 use Rattle.refutation_checker.specs.Derivation.{Derivation, clause_of, known, before, extended}
 use Rattle.refutation_checker.specs.Acceptance.{FollowsByHints, MayFollow, IsAccepted, IsEmptyStep, HasEmptyStep}
 use Rattle.refutation_checker.specs.Hints.{HintsConflict}
-use Rattle.refutation_checker.specs.Assigned.{Assigned, IsWithin}
+use Rattle.refutation_checker.specs.Assigned.{IsWithin}
+use Rattle.refutation_checker.specs.KnownClauses.{KnownClauses, with_clause}
 use Rattle.refutation_checker.specs.Variables.{IsDeclared, Declares, FollowsAmong}
-use Rattle.refutation_checker.specs.Checked.{derivation, IsIndexedOver}
+use Rattle.refutation_checker.specs.Checked.{derivation_of, IsConsistent}
+use Rattle.refutation_checker.specs.declared.checker.Checker.TheInside.{Inside}
 use Rattle.refutation_checker.proofs.CubeFacts.{inputs-within}
 
 abbrev over : ℕ → List (List Lit) → List Derived → Derivation
@@ -91,91 +94,99 @@ empty-extended d line was is before_it now = (onward, back) where
     | inr same ↦ now.1 (inr (subst IsEmptyStep (sym same) empty))
   ]
 
-pub indexed-extended : (inputs given : ℕ) (clauses : List (List Lit)) (derived : List Derived) (declared : List Bool) (row : Assigned) (was is : Bool) (line : Derived) (clause : List Lit) →
-    IsIndexedOver inputs given clauses derived declared row was → MayFollow (derivation inputs given clauses derived) line → clause ≡ clause_of line →
-    (IsTrue is ↔ (IsTrue was ⊎ IsEmptyStep line)) →
-    IsIndexedOver inputs given (clauses ++ clause ∷ []) (derived ++ line ∷ []) declared row is
-indexed-extended inputs given clauses derived declared row was is line clause h may clause_is now = record {
-  given_within = omega (arith, length-append clauses (clause ∷ []), h.given_within);
-  numbered = numbered;
-  within = All-push (IsWithin row.width) clauses clause h.within (subst (IsWithin row.width) (sym clause_is) (line-within (derivation inputs given clauses derived) declared row.width line h.inputs_within h.declared_width h.declares may));
-  inputs_within = h.inputs_within;
+-- the fields of a checker with one line more, whose clause is known
+pub consistent-extended : (a : Inside) (database : KnownClauses) (derived : Vec Derived Global) (refuted : Bool) (line : Derived) →
+    IsConsistent a → MayFollow (derivation_of a) line → database ≡ with_clause a.known (clause_of line) → derived.items ≡ a.derived.items ++ line ∷ [] →
+    (IsTrue refuted ↔ (IsTrue a.refuted ⊎ IsEmptyStep line)) → IsConsistent (record a { known = database; derived = derived; refuted = refuted })
+consistent-extended a database derived refuted line h may known_is derived_is now = record {
+  given_within = omega (arith, ap length clauses_are, length-append a.known.clauses (clause_of line ∷ []), h.given_within);
+  numbered = clauses_are ∙ numbered ∙ ap known same;
+  inputs_within = subst (λ (n : ℕ). a.inputs < n) (sym width_is) h.inputs_within;
+  row_width = h.row_width ∙ sym width_is;
   nothing_set = h.nothing_set;
-  declared_width = h.declared_width;
-  declares = subst (Declares declared inputs) (sym formula) h.declares;
-  accepted = subst IsAccepted same (accepted-extended (derivation inputs given clauses derived) line h.accepted may);
-  empty_step = subst (λ (x : Derivation). IsTrue is ↔ HasEmptyStep x) same (empty-extended (derivation inputs given clauses derived) line was is h.empty_step now);
+  declared_width = h.declared_width ∙ sym width_is;
+  declares = subst (Declares a.declared.items a.inputs) (sym formula) h.declares;
+  accepted = subst IsAccepted same (accepted-extended (derivation_of a) line h.accepted may);
+  empty_step = subst (λ (d : Derivation). IsTrue refuted ↔ HasEmptyStep d) same (empty-extended (derivation_of a) line a.refuted refuted h.empty_step now);
 } where
-  formula : take given (clauses ++ clause ∷ []) ≡ take given clauses
-  formula = take-append-le given clauses (clause ∷ []) h.given_within
+  width_is : database.width ≡ a.known.width
+  width_is = ap (λ (k : KnownClauses). k.width) known_is
 
-  same : extended (derivation inputs given clauses derived) line ≡ derivation inputs given (clauses ++ clause ∷ []) (derived ++ line ∷ [])
-  same = same_over inputs (take given clauses) (take given (clauses ++ clause ∷ [])) (derived ++ line ∷ []) (derived ++ line ∷ []) (sym formula) refl
+  clauses_are : database.clauses ≡ a.known.clauses ++ clause_of line ∷ []
+  clauses_are = ap (λ (k : KnownClauses). k.clauses) known_is
 
-  numbered : clauses ++ clause ∷ [] ≡ known (derivation inputs given (clauses ++ clause ∷ []) (derived ++ line ∷ []))
+  formula : take a.given database.clauses ≡ take a.given a.known.clauses
+  formula = ap (take a.given) clauses_are ∙ take-append-le a.given a.known.clauses (clause_of line ∷ []) h.given_within
+
+  same : extended (derivation_of a) line ≡ derivation_of (record a { known = database; derived = derived; refuted = refuted })
+  same = same_over a.inputs (take a.given a.known.clauses) (take a.given database.clauses) (a.derived.items ++ line ∷ []) derived.items (sym formula) (sym derived_is)
+
+  numbered : a.known.clauses ++ clause_of line ∷ [] ≡ known (extended (derivation_of a) line)
   numbered =
-      ap (λ (cs : List (List Lit)). cs ++ clause ∷ []) h.numbered
-      ∙ append_assoc (take given clauses) (map clause_of derived) (clause ∷ [])
-      ∙ ap (λ (c : List Lit). take given clauses ++ (map clause_of derived ++ c ∷ [])) clause_is
-      ∙ ap (λ (cs : List (List Lit)). take given clauses ++ cs) (sym (map-append clause_of derived (line ∷ [])))
-      ∙ ap (λ (cs : List (List Lit)). cs ++ map clause_of (derived ++ line ∷ [])) (sym formula)
+      ap (λ (cs : List (List Lit)). cs ++ clause_of line ∷ []) h.numbered
+      ∙ append_assoc (take a.given a.known.clauses) (map clause_of a.derived.items) (clause_of line ∷ [])
+      ∙ ap (λ (cs : List (List Lit)). take a.given a.known.clauses ++ cs) (sym (map-append clause_of a.derived.items (line ∷ [])))
+
+-- only the room for lines is another
+pub consistent-kept : (a : Inside) (database : KnownClauses) (derived : Vec Derived Global) →
+    IsConsistent a → database ≡ a.known → derived.items ≡ a.derived.items → IsConsistent (record a { known = database; derived = derived })
+consistent-kept a database derived h known_is derived_is =
+    subst (λ (k : KnownClauses). IsConsistent (record a { known = k; derived = derived })) (sym known_is) (record {
+      given_within = h.given_within;
+      numbered = h.numbered ∙ ap known same;
+      inputs_within = h.inputs_within;
+      row_width = h.row_width;
+      nothing_set = h.nothing_set;
+      declared_width = h.declared_width;
+      declares = h.declares;
+      accepted = subst IsAccepted same h.accepted;
+      empty_step = subst (λ (d : Derivation). IsTrue a.refuted ↔ HasEmptyStep d) same h.empty_step;
+    }) where
+      same : derivation_of a ≡ derivation_of (record a { derived = derived })
+      same = ap (over a.inputs (take a.given a.known.clauses)) (sym derived_is)
 
 -- a step that follows the known clauses follows the derivation, and the other way round
-pub follows-among : (inputs given : ℕ) (clauses : List (List Lit)) (derived : List Derived) (declared : List Bool) (row : Assigned) (refuted : Bool) (step : StepLine) →
-    IsIndexedOver inputs given clauses derived declared row refuted → FollowsAmong declared clauses step ↔ FollowsByHints (derivation inputs given clauses derived) step
-follows-among inputs given clauses derived declared row refuted step h = (onward, back) where
-  onward : FollowsAmong declared clauses step → FollowsByHints (derivation inputs given clauses derived) step
+pub follows-among : (a : Inside) (step : StepLine) → IsConsistent a → FollowsAmong a.declared.items a.known.clauses step ↔ FollowsByHints (derivation_of a) step
+follows-among a step h = (onward, back) where
+  onward : FollowsAmong a.declared.items a.known.clauses step → FollowsByHints (derivation_of a) step
   onward f = record {
     variables = λ k d inside. (h.declares (get_or step.clause k d).var).0 (f.variables k d inside);
     apart = f.apart;
     conflict = subst (λ (cs : List (List Lit)). HintsConflict cs (map denial step.clause) step.hints) h.numbered f.conflict;
   }
 
-  back : FollowsByHints (derivation inputs given clauses derived) step → FollowsAmong declared clauses step
+  back : FollowsByHints (derivation_of a) step → FollowsAmong a.declared.items a.known.clauses step
   back f = record {
     variables = λ k d inside. (h.declares (get_or step.clause k d).var).1 (f.variables k d inside);
     apart = f.apart;
     conflict = subst (λ (cs : List (List Lit)). HintsConflict cs (map denial step.clause) step.hints) (sym h.numbered) f.conflict;
   }
 
--- the same where the clauses and the row are read through a reference
-pub follows-read : (inputs given : ℕ) (clauses : List (List Lit)) (derived : List Derived) (declared : List Bool) (row : Assigned) (refuted : Bool) (step : StepLine) (d : Derivation) (cs : List (List Lit)) (ds : List Bool) →
-    IsIndexedOver inputs given clauses derived declared row refuted → derivation inputs given clauses derived ≡ d → cs ≡ clauses → ds ≡ declared →
-    FollowsAmong ds cs step ↔ FollowsByHints d step
-follows-read inputs given clauses derived declared row refuted step d cs ds h view clauses_are declared_is =
-    subst (λ (x : Derivation). FollowsAmong ds cs step ↔ FollowsByHints x step) view
-    (subst (λ (x : List (List Lit)). FollowsAmong ds x step ↔ FollowsByHints (derivation inputs given clauses derived) step) (sym clauses_are)
-    (subst (λ (x : List Bool). FollowsAmong x clauses step ↔ FollowsByHints (derivation inputs given clauses derived) step) (sym declared_is)
-    (follows-among inputs given clauses derived declared row refuted step h)))
-
 no_lines : (line : Derived) → Contains [] line → ⊥
 no_lines line (k, inside, at) = absurd (omega arith)
 
--- the index of a formula with nothing derived
-pub indexed-new : (inputs : ℕ) (clauses : List (List Lit)) (declared : List Bool) (row : Assigned) →
-    All (All (λ l. l.var < row.width)) clauses → inputs < row.width → row.trail ≡ [] → length declared ≡ row.width → Declares declared inputs clauses →
-    IsIndexedOver inputs (length clauses) clauses [] declared row false
-indexed-new inputs clauses declared row within below nothing size declares = record {
+nothing_derived : (d : Derivation) → d.derived ≡ [] → IsAccepted d × (HasEmptyStep d → ⊥) × (known d ≡ d.clauses)
+nothing_derived d none = (
+  (λ i line at. absurd (no_line i line (subst (λ (ds : List Derived). slice_get ds i ≡ Some line) none at))),
+  (λ h. no_lines h.0 (subst (λ (ds : List Derived). Contains ds h.0) none h.1)),
+  ap (λ (ds : List Derived). d.clauses ++ map clause_of ds) none ∙ append-nil d.clauses,
+) where
+  no_line : (i : ℕ) (line : Derived) → slice_get [] i ≡ Some line → ⊥
+  no_line i line at = cc
+
+-- the fields of a checker with nothing derived
+pub consistent-new : (a : Inside) → a.given ≡ length a.known.clauses → a.inputs < a.known.width → a.derived.items ≡ [] → a.row.width ≡ a.known.width → a.row.trail ≡ [] →
+    length a.declared.items ≡ a.known.width → Declares a.declared.items a.inputs a.known.clauses → a.refuted ≡ false → IsConsistent a
+consistent-new a given_is below none row_width nothing size declares not_refuted = record {
   given_within = omega arith;
-  numbered = sym (append-nil (take (length clauses) clauses) ∙ all);
-  within = within;
+  numbered = sym ((nothing_derived (derivation_of a) none).2 ∙ all);
   inputs_within = below;
+  row_width = row_width;
   nothing_set = nothing;
   declared_width = size;
-  declares = subst (Declares declared inputs) (sym all) declares;
-  accepted = λ i line at. absurd (none i line at);
-  empty_step = ((λ h. cc), (λ h. absurd (no_lines h.0 h.1)));
+  declares = subst (Declares a.declared.items a.inputs) (sym all) declares;
+  accepted = (nothing_derived (derivation_of a) none).0;
+  empty_step = ((λ h. cc), (λ h. absurd ((nothing_derived (derivation_of a) none).1 h)));
 } where
-  all : take (length clauses) clauses ≡ clauses
-  all = take_all (length clauses) clauses (omega arith)
-
-  none : (i : ℕ) (line : Derived) → slice_get [] i ≡ Some line → ⊥
-  none i line at = cc
-
-pub indexed-read : (inputs given : ℕ) (clauses items : List (List Lit)) (derived : List Derived) (declared : List Bool) (row : Assigned) →
-    items ≡ clauses → derived ≡ [] → given ≡ length clauses → IsIndexedOver inputs (length clauses) clauses [] declared row false →
-    IsIndexedOver inputs given items derived declared row false
-indexed-read inputs given clauses items derived declared row items_are none given_is h =
-    subst (λ (g : ℕ). IsIndexedOver inputs g items derived declared row false) (sym given_is)
-    (subst (λ (cs : List (List Lit)). IsIndexedOver inputs (length clauses) cs derived declared row false) (sym items_are)
-    (subst (λ (ds : List Derived). IsIndexedOver inputs (length clauses) clauses ds declared row false) (sym none) h))
+  all : take a.given a.known.clauses ≡ a.known.clauses
+  all = take_all a.given a.known.clauses (omega arith)
