@@ -6,5 +6,9 @@ pub mod LineLemmas
 pub mod Lists
 pub mod OutputLemmas
 pub mod PrintLemmas
+pub mod ReportLemmas
 pub mod RunLemmas
 pub mod SourceLemmas
+pub mod TellingLemmas
+pub mod TestTextLemmas
+pub mod UndecidedLemmas
