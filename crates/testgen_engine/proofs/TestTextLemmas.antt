@@ -54,7 +54,7 @@ abbrev title_pieces : ℕ → List ℕ → List (List ℕ)
 title_pieces number statements = codes "# test " ∷ decimal number ∷ codes " covers" ∷ flat_map credit_text statements ∷ codes "\n" ∷ []
 
 -- one title stands at the front
-pub same_title : (m n : ℕ) (ss ts : List ℕ) (x y : List ℕ) → m < 2 ^ 32 → n < 2 ^ 32 → AllByRecursion (λ s. s < 2 ^ 32) ss → AllByRecursion (λ s. s < 2 ^ 32) ts
+same_title : (m n : ℕ) (ss ts : List ℕ) (x y : List ℕ) → m < 2 ^ 32 → n < 2 ^ 32 → AllByRecursion (λ s. s < 2 ^ 32) ss → AllByRecursion (λ s. s < 2 ^ 32) ts
     → title_line m ss ++ x ≡ title_line n ts ++ y → (m ≡ n) × (ss ≡ ts) × (x ≡ y)
 same_title m n ss ts x y h k p q e =
     let number = same_decimal_behind (codes "# test ") m n _ _ (same_pieces (title_pieces m ss) (title_pieces n ts) x y e) (omega arith) (omega arith) refl refl in
@@ -94,7 +94,7 @@ abbrev packet_pieces : Input → List (List ℕ)
 packet_pieces x = codes "packet " ∷ decimal x.port ∷ codes " " ∷ encode_lower x.packet ∷ codes "\n" ∷ []
 
 -- one input stands at the front
-pub same_packet : (a b : Input) (x y : List ℕ) → a.port < 2 ^ 16 → b.port < 2 ^ 16 → AllByRecursion (λ c. c < 256) a.packet → AllByRecursion (λ c. c < 256) b.packet
+same_packet : (a b : Input) (x y : List ℕ) → a.port < 2 ^ 16 → b.port < 2 ^ 16 → AllByRecursion (λ c. c < 256) a.packet → AllByRecursion (λ c. c < 256) b.packet
     → packet_line a ++ x ≡ packet_line b ++ y → (a ≡ b) × (x ≡ y)
 same_packet a b x y h k p q e =
     let port = same_decimal_behind (codes "packet ") a.port b.port _ _ (same_pieces (packet_pieces a) (packet_pieces b) x y e) (omega arith) (omega arith) refl refl in

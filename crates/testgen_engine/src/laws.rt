@@ -4,9 +4,16 @@ ghost use Rattle.std.specs.Prelude.{◌≡◌, ℕ, ◌^◌, ◌<◌, List, All}
 ghost use Rattle.tg_base.specs.declared.desk.Out.{Out};
 ghost use Rattle.tg_base.specs.declared.desk.Out.TheVariants as out;
 ghost use Rattle.p4_meaning.specs.declared.test.Test.{Test};
-ghost use Rattle.testgen_engine.specs.Findings.{Findings, text_of};
-ghost use Rattle.testgen_engine.specs.Telling.{FindingsFit, TestFits, SameReport, SameTest, SameFindings};
+ghost use Rattle.testgen_engine.specs.Findings.{Findings, AreRight, text_of};
+ghost use Rattle.testgen_engine.specs.Telling.{PlaceFits, TestFits, FindingsFit, SameReport, SameTest, SameFindings};
 ghost use Rattle.testgen_engine.specs.TestText.{test_text};
+
+/// Of what the laws below suppose, right findings owe only the ranges of places and of tests, which their
+/// types have.
+pub fn right_findings_fit()
+    ensures { (f : Findings) → AreRight f → All PlaceFits f.program.statements
+        → All TestFits f.tests → FindingsFit f }
+{}
 
 /// A report tells the bounds, the places of the statements, the verdicts, how many tests there are,
 /// and the places of the undecided nibbles of each test.
