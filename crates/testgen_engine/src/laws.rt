@@ -8,8 +8,8 @@ ghost use Rattle.testgen_engine.specs.Findings.{Findings, AreRight, text_of};
 ghost use Rattle.testgen_engine.specs.Telling.{PlaceFits, TestFits, FindingsFit, SameReport, SameTest, SameFindings};
 ghost use Rattle.testgen_engine.specs.TestText.{test_text};
 
-/// Of what the laws below suppose, right findings owe only the ranges of places and of tests, which their
-/// types have.
+/// Right findings fit where their places and tests are in the ranges of their types: the laws below
+/// suppose no more of them.
 pub fn right_findings_fit()
     ensures { (f : Findings) → AreRight f → All PlaceFits f.program.statements
         → All TestFits f.tests → FindingsFit f }
