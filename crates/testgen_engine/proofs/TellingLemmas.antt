@@ -8,11 +8,13 @@ use Rattle.p4_meaning.specs.declared.test.Test.{Test}
 use Rattle.p4_meaning.specs.declared.verdict.Verdict.{Verdict}
 use Rattle.tg_base.specs.declared.desk.Out.{Out}
 use Rattle.tg_base.specs.declared.desk.Out.TheVariants as out
-use Rattle.testgen_engine.specs.Findings.{Findings, text_of}
+use Rattle.testgen_engine.specs.Findings.{Findings, AreRight, text_of}
 use Rattle.testgen_engine.specs.Log.{LogRecord}
 use Rattle.testgen_engine.specs.Report.{statement_lines, undecided_lines, counts_line, counts_of}
+use Rattle.testgen_engine.specs.Skeleton.{StandsFor}
 use Rattle.testgen_engine.specs.Telling.{PlaceFits, VerdictFits, TestFits, FindingsFit, undecided_places, SameReport, SameFindings}
 use Rattle.testgen_engine.specs.TestText.{text_of_test}
+use Rattle.testgen_engine.proofs.FitLemmas.{right_findings_fit}
 use Rattle.testgen_engine.proofs.ReportLemmas.{same_bounds_line, same_statement_lines, same_counts_line}
 use Rattle.testgen_engine.proofs.TestTextLemmas.{same_behind_title, same_shown_test}
 use Rattle.testgen_engine.proofs.UndecidedLemmas.{line_of, undecided_pairs, undecided_lines-places, undecided_fit, no_digit-lines, same_nibble_lines, same_undecided}
@@ -80,3 +82,9 @@ same_findings f g p q e =
     let number : 1 + k ≡ suc k = omega arith in
     subst (λ vs. text_of_test f.verdicts (1 + k) (slice_get f.tests k) ≡ text_of_test vs (1 + k) (slice_get g.tests k)) (sym report.verdicts) (rw number (e (out.Test (suc k))))) in
     record { bounds = report.bounds; places = report.places; verdicts = report.verdicts; tests = tests; log = same_log f.log g.log }
+
+-- right findings of the programs of sources fit
+pub same_right_findings : (f g : Findings) (bytes others : List ℕ) → AreRight f → AreRight g → StandsFor bytes f.program → StandsFor others g.program
+    → ((out : Out) → text_of f out ≡ text_of g out) → SameFindings f g
+same_right_findings f g bytes others right also source other_source =
+    same_findings f g (right_findings_fit f bytes right source) (right_findings_fit g others also other_source)

@@ -5,15 +5,9 @@ ghost use Rattle.tg_base.specs.declared.desk.Out.{Out};
 ghost use Rattle.tg_base.specs.declared.desk.Out.TheVariants as out;
 ghost use Rattle.p4_meaning.specs.declared.test.Test.{Test};
 ghost use Rattle.testgen_engine.specs.Findings.{Findings, AreRight, text_of};
-ghost use Rattle.testgen_engine.specs.Telling.{PlaceFits, TestFits, FindingsFit, SameReport, SameTest, SameFindings};
+ghost use Rattle.testgen_engine.specs.Skeleton.{StandsFor};
+ghost use Rattle.testgen_engine.specs.Telling.{TestFits, FindingsFit, SameReport, SameTest, SameFindings};
 ghost use Rattle.testgen_engine.specs.TestText.{test_text};
-
-/// Right findings fit where their places and tests are in the ranges of their types: the laws below
-/// suppose no more of them.
-pub fn right_findings_fit()
-    ensures { (f : Findings) → AreRight f → All PlaceFits f.program.statements
-        → All TestFits f.tests → FindingsFit f }
-{}
 
 /// A report tells the bounds, the places of the statements, the verdicts, how many tests there are,
 /// and the places of the undecided nibbles of each test.
@@ -35,5 +29,19 @@ pub fn tests_tell_apart()
 /// All outputs together tell all that was found, but what the statements of the program do.
 pub fn outputs_fix_findings()
     ensures { (f g : Findings) → FindingsFit f → FindingsFit g
+        → ((out : Out) → text_of f out ≡ text_of g out) → SameFindings f g }
+{}
+
+/// Right findings of the program of a source fit, so the laws above suppose nothing more of them.
+pub fn right_findings_fit()
+    ensures { (f : Findings) (bytes : List ℕ) → AreRight f → StandsFor bytes f.program
+        → FindingsFit f }
+{}
+
+/// So two calls that finish and print the same have found the same: the headline says that what was
+/// found is right and its program is that of a source, and this law supposes nothing more.
+pub fn right_outputs_fix_findings()
+    ensures { (f g : Findings) (bytes others : List ℕ) → AreRight f → AreRight g
+        → StandsFor bytes f.program → StandsFor others g.program
         → ((out : Out) → text_of f out ≡ text_of g out) → SameFindings f g }
 {}
