@@ -99,7 +99,7 @@ length-AllowsAll [] (digit ∷ digits) h = absurd h
 length-AllowsAll (nibble ∷ nibbles) [] h = absurd h
 length-AllowsAll (nibble ∷ nibbles) (digit ∷ digits) h = ap suc (length-AllowsAll nibbles digits h.1)
 
--- so a run that agrees with what is expected has two nibbles a byte of its packet at the most
+-- so where a run agrees with what is expected, there are at most two nibbles a byte of the packet
 nibbles_few : (p : Program) (b : Bounds) (x : Input) (expected : Expected) (o : Outcome) (marks : List ℕ) → Run p b x o marks → Agrees expected o → length (nibbles_of expected) ≤ 2 * length x.packet
 nibbles_few p b x Drop o marks run agrees = omega arith
 nibbles_few p b x (Packet port nibbles) o marks run agrees =
