@@ -6,10 +6,9 @@ use Rattle.std.proofs.Math.Seq.{get_or-append_seam}
 use Rattle.std.proofs.lemmas.List.Elements.{Contains-get_or}
 use Rattle.std.proofs.lemmas.List.Quantifiers.{all_pairs_push}
 use Rattle.cnf_core.specs.declared.formula.Lit.{Lit}
-use Rattle.cnf_core.specs.Literal.{denial}
+use Rattle.cnf_core.specs.Literal.{denial, IsApart}
 use Rattle.cnf_core.proofs.Literals.{same_var-cases}
 use Rattle.refutation_checker.specs.Hints.{IsOpen}
-use Rattle.refutation_checker.specs.Derivation.{IsApart}
 use Rattle.refutation_checker.specs.Assigned.{StandsAs}
 use Rattle.refutation_checker.specs.declared.assignment.Truth.{Truth}
 use Rattle.refutation_checker.specs.declared.assignment.Truth.TheVariants.{True, False, Open}

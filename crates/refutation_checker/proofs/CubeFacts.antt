@@ -4,9 +4,9 @@ use Rattle.std.specs.Prelude.{All, remove}
 use Rattle.std.proofs.lemmas.List.Elements.{All-weaker}
 use Rattle.std.proofs.lemmas.List.Quantifiers.{all_pairs_remove}
 use Rattle.cnf_core.specs.declared.formula.Lit.{Lit}
-use Rattle.cnf_core.specs.Literal.{denial}
+use Rattle.cnf_core.specs.Literal.{denial, IsApart}
 use Rattle.cnf_core.specs.Propagation.{Conflicts}
-use Rattle.refutation_checker.specs.Derivation.{IsApart, IsInput}
+use Rattle.refutation_checker.specs.Derivation.{IsInput}
 use Rattle.refutation_checker.specs.Acceptance.{LeavesOpen, IsLeastConflict}
 use Rattle.refutation_checker.specs.Assigned.{IsWithin, StandsAs}
 use Rattle.refutation_checker.specs.Cubes.{IsLastOpen}

@@ -4,9 +4,9 @@ use Rattle.cnf_core.specs.declared.formula.Lit.{Lit}
 use Rattle.cnf_core.specs.declared.derivation.Step.{Step as StepLine}
 use Rattle.cnf_core.specs.declared.derivation.Derived.{Derived}
 use Rattle.cnf_core.specs.declared.derivation.Derived.TheVariants.{Cube, Step}
-use Rattle.cnf_core.specs.Literal.{denial}
+use Rattle.cnf_core.specs.Literal.{denial, IsApart}
 use Rattle.cnf_core.specs.Propagation.{Sets, Conflicts}
-use Rattle.refutation_checker.specs.Derivation.{Derivation, known, before, IsApart, IsInput, IsVariable}
+use Rattle.refutation_checker.specs.Derivation.{Derivation, known, before, IsInput, IsVariable}
 use Rattle.refutation_checker.specs.Hints.{HintsConflict}
 
 -- with the clause's literals false, the hints conflict

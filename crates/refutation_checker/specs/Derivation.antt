@@ -1,13 +1,9 @@
 -- A derivation: a formula over input and other variables, and what was derived from it, in order.
-use Rattle.std.specs.Prelude.{◌≡◌, ◌≢◌, ℕ, ◌<◌, ◌≤◌, ◌⊎◌, ◌++◌, ◌∷◌, [], List, Any, AllPairs, map, take}
+use Rattle.std.specs.Prelude.{◌≡◌, ℕ, ◌<◌, ◌≤◌, ◌⊎◌, ◌++◌, ◌∷◌, [], List, Any, map, take}
 use Rattle.cnf_core.specs.declared.formula.Lit.{Lit}
 use Rattle.cnf_core.specs.declared.derivation.Derived.{Derived}
 use Rattle.cnf_core.specs.declared.derivation.Derived.TheVariants.{Cube, Step}
 use Rattle.cnf_core.specs.Literal.{denial}
-
--- no variable stands twice
-abbrev pub IsApart : List Lit → Type 0
-IsApart lits = AllPairs (λ k l. k.var ≢ l.var) lits
 
 -- variables 1 to `inputs` are the inputs
 pub record Derivation : Type 0 where

@@ -2,8 +2,8 @@
 use Rattle.std.specs.Prelude.{ℕ, false, Bool, List, All, Any, IsTrue, ◌≡◌, ◌↔◌, ◌⊎◌, map, slice_index_or}
 use Rattle.cnf_core.specs.declared.formula.Lit.{Lit}
 use Rattle.cnf_core.specs.declared.derivation.Step.{Step}
-use Rattle.cnf_core.specs.Literal.{denial}
-use Rattle.refutation_checker.specs.Derivation.{IsApart, IsVariable}
+use Rattle.cnf_core.specs.Literal.{denial, IsApart}
+use Rattle.refutation_checker.specs.Derivation.{IsVariable}
 use Rattle.refutation_checker.specs.Hints.{HintsConflict}
 
 -- the row has the variable

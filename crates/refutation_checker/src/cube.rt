@@ -4,7 +4,8 @@ ghost use Rattle.cnf_core.specs.Propagation.{Conflicts};
 ghost use Rattle.refutation_checker.specs.Acceptance.{IsLeastConflict, IsEachNeeded};
 ghost use Rattle.refutation_checker.specs.Assigned.{IsWithin};
 ghost use Rattle.refutation_checker.specs.Cubes.{IsLastOpen};
-ghost use Rattle.refutation_checker.specs.Derivation.{IsApart, IsInput};
+ghost use Rattle.cnf_core.specs.Literal.{IsApart};
+ghost use Rattle.refutation_checker.specs.Derivation.{IsInput};
 
 use crate::assignment::{Assignment, Truth};
 use crate::clause_database::ClauseDatabase;

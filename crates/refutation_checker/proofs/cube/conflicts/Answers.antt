@@ -2,7 +2,7 @@
 use Rattle.std.proofs.Common.{◌≡◌, ◌++◌, List, refl, sym, ◌∙◌, ap, subst}
 use Rattle.cnf_core.specs.declared.formula.Lit.{Lit}
 use Rattle.cnf_core.specs.Propagation.{Conflicts}
-use Rattle.refutation_checker.specs.Derivation.{IsApart}
+use Rattle.cnf_core.specs.Literal.{IsApart}
 use Rattle.refutation_checker.proofs.cube.conflicts.Goals as goal
 
 pub returns-clause-answer : goal.returns-clause-answer

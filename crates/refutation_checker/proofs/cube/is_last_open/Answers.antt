@@ -4,7 +4,7 @@ use Rattle.std.proofs.lemmas.Bool.{both_ways}
 use Rattle.std.proofs.lemmas.List.{same_from_push}
 use Rattle.cnf_core.specs.declared.formula.Lit.{Lit}
 use Rattle.cnf_core.specs.Propagation.{Conflicts}
-use Rattle.refutation_checker.specs.Derivation.{IsApart}
+use Rattle.cnf_core.specs.Literal.{IsApart}
 use Rattle.refutation_checker.specs.Acceptance.{LeavesOpen}
 use Rattle.refutation_checker.specs.Propagated.{AreAllSet}
 use Rattle.refutation_checker.proofs.CubeFacts.{apart-rest, leaves_open, not_left_open}

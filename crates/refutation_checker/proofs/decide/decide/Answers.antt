@@ -3,7 +3,7 @@ use Rattle.std.proofs.Common.{◌≡◌, ◌+◌, ◌++◌, ◌∷◌, [], List,
 use Rattle.std.proofs.lemmas.List.{take_more, take-append-drop}
 use Rattle.cnf_core.specs.declared.formula.Lit.{Lit}
 use Rattle.cnf_core.proofs.Literals.{no_lit}
-use Rattle.refutation_checker.specs.Derivation.{IsApart}
+use Rattle.cnf_core.specs.Literal.{IsApart}
 use Rattle.refutation_checker.proofs.Apart.{apart-front}
 use Rattle.refutation_checker.proofs.decide.decide.Goals as goal
 

@@ -1,6 +1,6 @@
 -- The literals before the index are set, and no variable stands twice so far.
 use Rattle.std.proofs.Common.{◌≡◌, ◌≤◌, length, ◌++◌, take}
-use Rattle.refutation_checker.specs.Derivation.{IsApart}
+use Rattle.cnf_core.specs.Literal.{IsApart}
 use Rattle.refutation_checker.proofs.decide.decide.Given as goal
 
 abbrev pub invariant-loop-l : goal.invariant-loop-l

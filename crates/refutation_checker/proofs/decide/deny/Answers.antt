@@ -2,9 +2,8 @@
 use Rattle.std.proofs.Common.{◌≡◌, ◌+◌, ◌++◌, ◌∷◌, [], List, get_or, take, map, refl, sym, ◌∙◌, ap, subst}
 use Rattle.std.proofs.lemmas.List.{take_more, take_all, map-append}
 use Rattle.cnf_core.specs.declared.formula.Lit.{Lit}
-use Rattle.cnf_core.specs.Literal.{denial}
+use Rattle.cnf_core.specs.Literal.{denial, IsApart}
 use Rattle.cnf_core.proofs.Literals.{no_lit}
-use Rattle.refutation_checker.specs.Derivation.{IsApart}
 use Rattle.refutation_checker.proofs.Apart.{apart-take, apart-denials, apart-from_denials}
 use Rattle.refutation_checker.proofs.decide.deny.Goals as goal
 

@@ -1,7 +1,6 @@
 -- The denials of the literals before the index are set, and no variable stands twice so far.
 use Rattle.std.proofs.Common.{◌≡◌, ◌≤◌, length, take, map}
-use Rattle.cnf_core.specs.Literal.{denial}
-use Rattle.refutation_checker.specs.Derivation.{IsApart}
+use Rattle.cnf_core.specs.Literal.{denial, IsApart}
 use Rattle.refutation_checker.proofs.decide.deny.Given as goal
 
 abbrev pub invariant-loop-l : goal.invariant-loop-l
