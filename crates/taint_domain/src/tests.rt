@@ -74,8 +74,16 @@ fn operators_taint_results(rt: HostRuntime) -> Result<(), Fail> {
     for (op, number, mask) in ROWS {
         let clear = domain.binary(op, &tainted(0xf0, 0), &tainted(0x21, 0))?;
         let touched = domain.binary(op, &tainted(0xf0, 0x05), &tainted(0x21, 0))?;
-        assert_eq!(rt; (clear.number.value, clear.mask.value), (number, 0), "{op:?}");
-        assert_eq!(rt; (touched.number.value, touched.mask.value), (number, mask), "{op:?}");
+        assert_eq!(rt;
+            (clear.number.value, clear.mask.value),
+            (number, 0),
+            "{op:?}"
+        );
+        assert_eq!(rt;
+            (touched.number.value, touched.mask.value),
+            (number, mask),
+            "{op:?}"
+        );
     }
     Ok(())
 }
@@ -99,7 +107,11 @@ fn masks_move_and_settle(rt: HostRuntime) -> Result<(), Fail> {
         let a = tainted(first.0, first.1);
         let b = tainted(second.0, second.1);
         let value = domain.binary(op, &a, &b)?;
-        assert_eq!(rt; (value.number.value, value.mask.value), (number, mask), "{op:?}");
+        assert_eq!(rt;
+            (value.number.value, value.mask.value),
+            (number, mask),
+            "{op:?}"
+        );
     }
     Ok(())
 }
@@ -155,7 +167,10 @@ fn comparisons_are_known_without_taint(rt: HostRuntime) -> Result<(), Fail> {
     let less = domain.compare(Op::LtU, &a, &b)?;
     let less_signed = domain.compare(Op::LtS, &a, &b)?;
     let open = domain.compare(Op::LtU, &c, &b)?;
-    assert_eq!(rt; (less, less_signed), (TaintFlag::Known(false), TaintFlag::Known(true)));
+    assert_eq!(rt;
+        (less, less_signed),
+        (TaintFlag::Known(false), TaintFlag::Known(true))
+    );
     assert_eq!(rt; open, TaintFlag::Unknown);
     assert_eq!(rt; (less.is_known(), open.is_known()), (true, false));
     Ok(())
@@ -175,7 +190,9 @@ const FLAGS: [(TaintFlag, TaintFlag, TaintFlag, TaintFlag); 9] = [
 ];
 
 const FALSE: TaintFlag = TaintFlag::Known(false);
+
 const TRUE: TaintFlag = TaintFlag::Known(true);
+
 const OPEN: TaintFlag = TaintFlag::Unknown;
 
 #[test]
