@@ -1,8 +1,8 @@
 -- What stands for the operands, put through an operator, stands for the result.
-use Rattle.std.proofs.Common.{◌≡◌, ℕ, ◌+◌, ◌-◌, ◌*◌, ◌%◌, ◌^◌, ◌<◌, ◌≤◌, Bool, true, false, refl, sym, ap, ◌∙◌, subst, arith, ◌⊎◌, inl, inr, ⊎_elim}
+use Rattle.std.proofs.Common.{◌≡◌, ℕ, ◌+◌, ◌-◌, ◌*◌, ◌%◌, ◌^◌, ◌<◌, ◌≤◌, refl, sym, ap, ◌∙◌, subst, arith, ◌⊎◌, inl, inr, ⊎_elim}
 use Rattle.std.specs.Prelude.{◌==◌, ◌&&◌, min, max, nat_lt, if◌then◌else◌, bit_and, bit_or, bit_xor}
 use Rattle.std.specs.Int.{bit_at}
-use Rattle.std.proofs.lemmas.Bool.{cases_lt, cases_Bool, and_parts, eqb-true}
+use Rattle.std.proofs.lemmas.Bool.{cases_lt, cond_both, and_parts, eqb-true}
 use Rattle.std.proofs.lemmas.Nat.{pow_pos, and_le_l, or_lt}
 use Rattle.std.proofs.lemmas.Nat.Bits.{bit_at-zero, bit_at_above, bit_at_ones, bit_at_and, bit_at_or, bit_at_xor, bit_at_cat_low, bit_at_cat_high, same_from_bits, same_from_bits_below, bit_at-lt}
 use Rattle.bits_core.specs.declared.operator.Op.{Op}
@@ -37,10 +37,6 @@ untainted v x clear stands =
 
 -- ---- operators that carry from bit to bit
 
-all_unless : (t : Bool) (w n x : ℕ) → n < 2 ^ w → x < 2 ^ w → (t ≡ true → x ≡ n) → IsSameOutside (if t then 0 else (2 ^ w - 1)) n x
-all_unless true w n x p q same = same_number 0 n x (same refl)
-all_unless false w n x p q same = any_number w n x p q
-
 -- the bounds of a result on what stands for the operands
 result_fits : (op : Op) (a b : Tainted) (x y : ℕ) → WidthsFit (shape_of op) a.number.width b.number.width →
     x < 2 ^ a.number.width → y < 2 ^ b.number.width →
@@ -52,15 +48,15 @@ carried : (op : Op) (a b : Tainted) (x y : ℕ) → WidthsFit (shape_of op) a.nu
     (operator_value op a.number.width a.number.value b.number.width b.number.value)
     (operator_value op a.number.width x b.number.width y)
 carried op a b x y fits p q =
-    all_unless (a.mask.value == 0 && b.mask.value == 0) _ _ _
-    (result_fits op a b a.number.value b.number.value fits a.number.fits b.number.fits)
-    (result_fits op a b x y fits p.fits q.fits)
+    let value : ℕ → ℕ → ℕ = λ n k. operator_value op a.number.width n b.number.width k in
+    cond_both (a.mask.value == 0 && b.mask.value == 0) 0 _ (λ m. IsSameOutside m (value a.number.value b.number.value) (value x y))
     (λ clear.
     let both = and_parts (a.mask.value == 0) (b.mask.value == 0) clear in
     let first : x ≡ a.number.value = untainted a x (eqb-true a.mask.value 0 both.0) p in
     let second : y ≡ b.number.value = untainted b y (eqb-true b.mask.value 0 both.1) q in
-    ap (λ (n : ℕ). operator_value op a.number.width n b.number.width y) first
-    ∙ ap (λ (n : ℕ). operator_value op a.number.width a.number.value b.number.width n) second)
+    same_number 0 _ _ (ap (λ (n : ℕ). value n y) first ∙ ap (value a.number.value) second))
+    (λ tainted. any_number _ _ _
+    (result_fits op a b a.number.value b.number.value fits a.number.fits b.number.fits) (result_fits op a b x y fits p.fits q.fits))
 
 -- ---- operators that move bits
 
@@ -108,15 +104,9 @@ shifted op a b x y from fits width place p q =
     (sym (untainted b y clear q))
     (moves (λ n. value n b.number.value) from w w a.mask.value a.number.value x
     (λ z h. bound z b.number.value h b.number.fits) place (mask_fits a) a.number.fits p.fits p.outside) in
-    ⊎_elim
-    (λ (clear : (b.mask.value == 0) ≡ true).
-    subst (λ (t : Bool). IsSameOutside (if t then value a.mask.value b.number.value else (2 ^ w - 1)) (value a.number.value b.number.value) (value x y))
-    (sym clear) (known (eqb-true b.mask.value 0 clear)))
-    (λ (tainted : (b.mask.value == 0) ≡ false).
-    subst (λ (t : Bool). IsSameOutside (if t then value a.mask.value b.number.value else (2 ^ w - 1)) (value a.number.value b.number.value) (value x y))
-    (sym tainted)
-    (any_number w _ _ (bound a.number.value b.number.value a.number.fits b.number.fits) (bound x y p.fits q.fits)))
-    (cases_Bool (b.mask.value == 0))
+    cond_both (b.mask.value == 0) (value a.mask.value b.number.value) (2 ^ w - 1) (λ m. IsSameOutside m (value a.number.value b.number.value) (value x y))
+    (λ clear. known (eqb-true b.mask.value 0 clear))
+    (λ tainted. any_number w _ _ (bound a.number.value b.number.value a.number.fits b.number.fits) (bound x y p.fits q.fits))
 
 -- ---- operators that work bit by bit
 

@@ -1,8 +1,11 @@
-//! What a mask promises, each law the contract of a function that does nothing. The lemmas of the same content are in
+//! What a mask promises, and what it may not leave out, each law the contract of a function that does nothing. The lemmas of the same content are in
 //! `proofs/`, where a proof takes them from.
 ghost use Rattle.std.specs.Prelude.{◌≡◌, ℕ};
 ghost use Rattle.std.specs.Int.{bit_at};
 ghost use Rattle.taint_domain.specs.declared.tainted.Tainted.{Tainted};
+ghost use Rattle.bits_core.specs.declared.operator.Op.TheVariants.{And, Or, Xor, Not, Shl, ShrU, ShrS, Cat};
+ghost use Rattle.taint_domain.specs.Masks.{taint_of};
+ghost use Rattle.taint_domain.specs.Precision.{MayDiffer};
 ghost use Rattle.taint_domain.specs.Tainted.{StandsFor, IsClear};
 
 /// A value stands for its own number, and without taint for no other.
@@ -15,4 +18,20 @@ pub fn values_stand_for_their_numbers()
 pub fn runs_agree_outside_masks()
     ensures { (v : Tainted) (x y place : ℕ) → StandsFor v x → StandsFor v y → bit_at v.mask.value place ≡ 0
         → bit_at x place ≡ bit_at y place }
+{}
+
+/// No smaller mask would do for the operators that work bit by bit or move bits, a shift among them where its amount is
+/// clear: each tainted bit of the result differs for some numbers that the operands stand for.
+pub fn masks_are_the_least()
+    ensures conjunction { (a b : Tainted) (place : ℕ) → bit_at (taint_of And a b) place ≡ 1 → MayDiffer And a b place }
+    ensures disjunction { (a b : Tainted) (place : ℕ) → bit_at (taint_of Or a b) place ≡ 1 → MayDiffer Or a b place }
+    ensures exclusive { (a b : Tainted) (place : ℕ) → bit_at (taint_of Xor a b) place ≡ 1 → MayDiffer Xor a b place }
+    ensures complement { (a b : Tainted) (place : ℕ) → bit_at (taint_of Not a b) place ≡ 1 → MayDiffer Not a b place }
+    ensures join { (a b : Tainted) (place : ℕ) → bit_at (taint_of Cat a b) place ≡ 1 → MayDiffer Cat a b place }
+    ensures left { (a b : Tainted) (place : ℕ) → IsClear b → bit_at (taint_of Shl a b) place ≡ 1
+        → MayDiffer Shl a b place }
+    ensures right { (a b : Tainted) (place : ℕ) → IsClear b → bit_at (taint_of ShrU a b) place ≡ 1
+        → MayDiffer ShrU a b place }
+    ensures signed_right { (a b : Tainted) (place : ℕ) → IsClear b → bit_at (taint_of ShrS a b) place ≡ 1
+        → MayDiffer ShrS a b place }
 {}
