@@ -23,7 +23,6 @@ pub struct Input {
 pub fn bounded(_program: &Program, bounds: Bounds, input: &Input) -> bool
     ensures { IsTrue result ↔ Bounded _program.now bounds input.now }
 {
-    input.port <= MAX_PORT
-        && !input.packet.is_empty()
-        && input.packet.len() <= usize::from(bounds.bytes)
+    let packet = input.packet.as_slice();
+    input.port <= MAX_PORT && !packet.is_empty() && packet.len() <= usize::from(bounds.bytes)
 }

@@ -1,4 +1,4 @@
--- The fields of a checker with nothing derived, and with one line more.
+-- The fields of a checker with nothing derived, with one line more, and what follows by them.
 use Rattle.std.proofs.Common.{◌≡◌, ℕ, ◌<◌, ◌⊎◌, Bool, true, false, List, [], ◌∷◌, ◌++◌, length, get_or, take, map, inl, inr, ap, sym, ◌∙◌, subst, arith, append_assoc, length-append}
 use Rattle.std.specs.Prelude.{◌↔◌, IsTrue, Contains, Some, Vec, slice_get}
 use Rattle.std.specs.Global.{Global}
@@ -165,6 +165,7 @@ follows-among a step h = (onward, back) where
 no_lines : (line : Derived) → Contains [] line → ⊥
 no_lines line (k, inside, at) = absurd (omega arith)
 
+-- with no lines all are accepted, none is empty, and the formula is what is known
 nothing_derived : (d : Derivation) → d.derived ≡ [] → IsAccepted d × (HasEmptyStep d → ⊥) × (known d ≡ d.clauses)
 nothing_derived d none = (
   (λ i line at. absurd (no_line i line (subst (λ (ds : List Derived). slice_get ds i ≡ Some line) none at))),

@@ -1,5 +1,5 @@
 // The clauses that a checker knows, in the order of their numbers, and where each literal stands in them.
-ghost use Rattle.std.specs.Prelude.{◌≡◌, ◌<◌, ◌^◌, [], All, IfOk, OnOk, OnErr};
+ghost use Rattle.std.specs.Prelude.{◌≡◌, ◌<◌, ◌≤◌, ◌^◌, ℕ, [], All, IfOk, OnOk, OnErr};
 ghost use Rattle.refutation_checker.specs.Assigned.{IsWithin};
 ghost use Rattle.refutation_checker.specs.KnownClauses.{with_clause};
 ghost use Rattle.refutation_checker.specs.Occurrences.{NamesOccurrences, NamesLoose};
@@ -36,6 +36,7 @@ impl ClauseDatabase {
     pub fn of(alloc: Global, clauses: &[Clause], inputs: u32) -> Result<ClauseDatabase, AllocError>
         ensures inputs { IfOk result (λ known. inputs < known.width) }
         ensures clauses { IfOk result (λ known. known.clauses ≡ clauses.now) }
+        ensures least { IfOk result (λ known. (n : ℕ) → inputs < n → All (IsWithin n) clauses.now → known.width ≤ n) }
     {
         let width = highest_variable(clauses, inputs) as usize + 1;
         let mut known = ClauseDatabase::new(alloc, width, clauses.len())?;

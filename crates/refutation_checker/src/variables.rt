@@ -11,6 +11,7 @@ use std::alloc::{AllocError, Global};
 pub fn highest_variable(clauses: &[Clause], inputs: u32) -> u32
     ensures inputs { inputs ≤ result }
     ensures clauses { All (All (λ l. l.var ≤ result)) clauses.now }
+    ensures least { (n : ℕ) → inputs ≤ n → All (All (λ l. l.var ≤ n)) clauses.now → result ≤ n }
 {
     let mut highest = inputs;
     for clause in clauses {
@@ -22,6 +23,7 @@ pub fn highest_variable(clauses: &[Clause], inputs: u32) -> u32
 fn highest_in(lits: &[Lit], above: u32) -> u32
     ensures above { above ≤ result }
     ensures lits { All (λ l. l.var ≤ result) lits.now }
+    ensures least { (n : ℕ) → above ≤ n → All (λ l. l.var ≤ n) lits.now → result ≤ n }
 {
     let mut highest = above;
     for l in lits {

@@ -1,10 +1,11 @@
 -- Lemmas on verdicts and tests: one test of the opening input, which is credited with every statement, is right
 -- and chosen as it should be.
-use Rattle.std.proofs.Common.{◌≡◌, ℕ, ◌≤◌, true, false, List, [], ◌∷◌, None, Some, IsSome, length, map, replicate, min, inl, inr, refl, ap, sym, ◌∙◌, subst, arith, if◌then◌else◌}
+use Rattle.std.proofs.Common.{◌≡◌, ℕ, ◌<◌, ◌≤◌, true, false, List, [], ◌∷◌, None, Some, IsSome, length, map, replicate, min, inl, inr, refl, ap, sym, ◌∙◌, subst, arith, lit<, if◌then◌else◌}
 use Prim.Native.Nat.{zero, suc}
 use Rattle.std.proofs.Math.Dec.{eqb}
 use Rattle.std.proofs.lemmas.Bool.{eqb-true}
 use Rattle.std.proofs.lemmas.List.{length-replicate, get_or-replicate}
+use Rattle.std.proofs.lemmas.List.Elements.{All-replicate}
 use Rattle.std.specs.List.{Contains, slice_get}
 use Rattle.p4_program.specs.declared.bounds.Bounds.{Bounds}
 use Rattle.p4_program.specs.declared.input.Input.{Input}
@@ -87,6 +88,7 @@ opening_bounded p b =
     let low = b.some_bytes in
     record {
       port = omega arith;
+      bytes = All-replicate (λ byte. byte < 256) (min b.bytes 14) 0 (lit< tt);
       some_byte = omega (arith, length-replicate {A = ℕ} (min b.bytes 14) 0);
       most_bytes = omega (arith, length-replicate {A = ℕ} (min b.bytes 14) 0);
     }

@@ -1,5 +1,5 @@
 -- Lemmas on numbers at the front of a text.
-use Rattle.std.proofs.Common.{◌≡◌, ℕ, ◌+◌, ◌-◌, ◌<◌, ◌≤◌, true, false, cond, ◌&&◌, List, [], ◌∷◌, ◌++◌, length, get_or, take, drop, refl, ap, sym, ◌∙◌, subst, arith, length-take, get_or-take}
+use Rattle.std.proofs.Common.{◌≡◌, ℕ, ◌+◌, ◌-◌, ◌^◌, ◌<◌, ◌≤◌, true, false, cond, ◌&&◌, List, [], ◌∷◌, ◌++◌, length, get_or, take, drop, refl, ap, sym, ◌∙◌, subst, arith, length-take, get_or-take}
 use Rattle.std.proofs.lemmas.Fmt.{digits_decimal, decimal_injective, decimal-digits_value, digits_value-decimal, decimal_nonempty, length-decimal-le, first_decimal, decimal_digit}
 use Rattle.std.proofs.lemmas.Str.Parse.{IsNumeralModel, numerals_by_value, tells_digits, tells_by_index, tells_all_ascii_digits}
 use Prim.Native.Nat.{zero, suc}
@@ -104,8 +104,25 @@ number_at text plain small =
     }
 
 -- a number at the front is the only one
+pub same_decimal : (m n : ℕ) (x y : List ℕ) → decimal m ++ x ≡ decimal n ++ y → m < 2 ^ 64 → n < 2 ^ 64 → StartsNoDigit x → StartsNoDigit y → (m ≡ n) × (x ≡ y)
+same_decimal m n x y e p q h k =
+    let len : length (decimal m) ≡ length (decimal n) =
+    sym (prefix_len-digits (decimal m) x (digits_decimal by_tests m p) h) ∙ ap (prefix_len is_ascii_digit) e ∙ prefix_len-digits (decimal n) y (digits_decimal by_tests n q) k in
+    let digits : decimal m ≡ decimal n =
+    sym (take-append_seam (decimal m) x) ∙ ap (take (length (decimal m))) e ∙ ap (λ l. take l (decimal n ++ y)) len ∙ take-append_seam (decimal n) y in
+    (decimal_injective m n p q digits, append_left_injective (decimal n) x y (ap (λ ds. ds ++ x) (sym digits) ∙ e))
+
 pub same_number : (text : List ℕ) (m n : ℕ) (x y : List ℕ) → IsNumberAt text m x → IsNumberAt text n y → (m ≡ n) × (x ≡ y)
 same_number text m n x y a b =
-    let digits : decimal m ≡ decimal n = sym (front_of_number text m x a) ∙ front_of_number text n y b in
-    let same : m ≡ n = decimal_injective m n (let s = a.nine_bits in omega arith) (let s = b.nine_bits in omega arith) digits in
-    (same, append_left_injective (decimal n) x y (ap (λ ds. ds ++ x) (sym digits) ∙ sym a.whole ∙ b.whole))
+    same_decimal m n x y (sym a.whole ∙ b.whole) (let s = a.nine_bits in omega arith) (let s = b.nine_bits in omega arith) a.ends b.ends
+
+-- a number behind one front
+pub same_decimal_behind : (front : List ℕ) (m n : ℕ) (x y : List ℕ) → front ++ (decimal m ++ x) ≡ front ++ (decimal n ++ y) → m < 2 ^ 64 → n < 2 ^ 64 → StartsNoDigit x → StartsNoDigit y
+    → (m ≡ n) × (x ≡ y)
+same_decimal_behind front m n x y e = same_decimal m n x y (append_left_injective front _ _ e)
+
+-- a number is no text that does not begin with a digit
+pub decimal_apart : (n : ℕ) (x y : List ℕ) → decimal n ++ x ≡ y → n < 2 ^ 64 → StartsNoDigit x → StartsNoDigit y → ⊥
+decimal_apart n x y e p h k =
+    let len : length (decimal n) ≡ 0 = sym (prefix_len-digits (decimal n) x (digits_decimal by_tests n p) h) ∙ ap (prefix_len is_ascii_digit) e ∙ k in
+    omega (arith, decimal_nonempty n p)

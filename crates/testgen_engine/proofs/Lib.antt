@@ -2,9 +2,14 @@ pub mod ChosenLemmas
 pub mod DigitLemmas
 pub mod Digits
 pub mod EndLemmas
+pub mod FitLemmas
 pub mod LineLemmas
 pub mod Lists
 pub mod OutputLemmas
 pub mod PrintLemmas
+pub mod ReportLemmas
 pub mod RunLemmas
 pub mod SourceLemmas
+pub mod TellingLemmas
+pub mod TestTextLemmas
+pub mod UndecidedLemmas

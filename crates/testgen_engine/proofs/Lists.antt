@@ -1,5 +1,8 @@
 -- Lemmas on lists and texts.
-use Rattle.std.proofs.Common.{◌≡◌, ℕ, ◌-◌, ◌<◌, ◌≤◌, List, [], ◌∷◌, ◌++◌, length, get_or, take, drop, refl, ap, ◌∙◌, arith, length-drop, append_assoc}
+use Rattle.std.proofs.Common.{◌≡◌, ℕ, ◌-◌, ◌<◌, ◌≤◌, List, [], ◌∷◌, ◌++◌, length, get_or, take, drop, false, refl, sym, ap, ◌∙◌, arith, length-drop, append_assoc}
+use Rattle.std.proofs.Math.Dec.{eqb}
+use Rattle.std.proofs.lemmas.Bool.{eq-eqb, false≢true}
+use Rattle.std.specs.List.{concat}
 use Rattle.std.proofs.lemmas.List.{take-append-drop, take_all}
 
 -- a list of two is its first and its second item
@@ -33,3 +36,20 @@ join_four start first second third fourth a b c d none one two three four =
 pub some_item : {X : Type 0} (xs : List X) → (xs ≡ [] → ⊥) → 1 ≤ length xs
 some_item [] h = absurd (h refl)
 some_item (x ∷ xs) h = omega arith
+
+-- pieces one behind another, and then a text
+abbrev pub pieces_then : List (List ℕ) → List ℕ → List ℕ
+pieces_then [] text = text
+pieces_then (piece ∷ pieces) text = piece ++ pieces_then pieces text
+
+pub concat-then : (pieces : List (List ℕ)) (text : List ℕ) → concat pieces ++ text ≡ pieces_then pieces text
+concat-then [] text = refl
+concat-then (piece ∷ pieces) text = append_assoc piece (concat pieces) text ∙ ap (λ xs. piece ++ xs) (concat-then pieces text)
+
+-- so what follows one front is told from its pieces
+pub same_pieces : (ps qs : List (List ℕ)) (x y : List ℕ) → concat ps ++ x ≡ concat qs ++ y → pieces_then ps x ≡ pieces_then qs y
+same_pieces ps qs x y e = sym (concat-then ps x) ∙ e ∙ concat-then qs y
+
+-- texts that differ at a place are not one
+pub differ_at : (place : ℕ) (xs ys : List ℕ) → xs ≡ ys → eqb (get_or xs place 0) (get_or ys place 0) ≡ false → ⊥
+differ_at place xs ys e h = false≢true (sym h ∙ eq-eqb (get_or xs place 0) (get_or ys place 0) (ap (λ zs. get_or zs place 0) e))

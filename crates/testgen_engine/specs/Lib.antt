@@ -11,5 +11,6 @@ pub mod Report
 pub mod Skeleton
 pub mod Source
 pub mod Status
+pub mod Telling
 pub mod TestText
 pub mod Words

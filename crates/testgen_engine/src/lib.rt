@@ -10,11 +10,13 @@
 //! - `decide`: tests and verdicts;
 //! - `report`, `test_text`: their texts;
 //! - `output`, `print`: writing to a desk;
-//! - `generate`: the job as a whole.
+//! - `generate`: the job as a whole;
+//! - `laws`: that the texts tell what was found.
 #![tactic(auto)]
 
 mod decide;
 mod generate;
+pub mod laws;
 mod output;
 mod print;
 mod report;

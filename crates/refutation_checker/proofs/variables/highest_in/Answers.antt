@@ -17,6 +17,7 @@ loop-l-preserved c =
       lits = All-more (λ (m : Lit). m.var ≤ c.max-highest.result) lits i no_lit c.loop-l-test.true
           (All-weaker (λ (m : Lit). m.var ≤ c.loop-l.highest) (λ (m : Lit). m.var ≤ c.max-highest.result) (λ m h. omega arith) (take i lits) inv.lits)
           (omega arith);
+      least = λ n above_it all. omega (arith, inv.least n above_it all, all i no_lit c.loop-l-test.true);
     }
 
 pub returns-clause-lits : goal.returns-clause-lits

@@ -1,5 +1,5 @@
 -- The maximum so far is at least each variable of the clauses before.
-use Rattle.std.proofs.Common.{◌≤◌, ℕ, take, arith, subst}
+use Rattle.std.proofs.Common.{◌≤◌, ℕ, take, arith, sym, subst}
 use Rattle.std.specs.Prelude.{All}
 use Rattle.std.proofs.lemmas.List.{take_all}
 use Rattle.std.proofs.lemmas.List.Elements.{All-more, All-weaker}
@@ -19,6 +19,8 @@ loop-clause-preserved c =
           (All-weaker (All (below c.loop-clause.highest)) (All (below higher))
           (λ lits h. All-weaker (below c.loop-clause.highest) (below higher) (λ m k. omega arith) lits h) (take i clauses) inv.clauses)
           (subst (All (below higher)) c.clause-item.is (subst (All (below higher)) c.as_slice.ensures c.highest_in-highest.ensures.lits));
+      least = λ n above all. c.highest_in-highest.ensures.least n (inv.least n above all)
+          (subst (All (below n)) (sym c.as_slice.ensures) (subst (All (below n)) (sym c.clause-item.is) (all i c.clause-item.result c.loop-clause-test.true)));
     }
 
 pub returns-clause-clauses : goal.returns-clause-clauses

@@ -1,0 +1,47 @@
+//! Laws of the texts, each the contract of a function that does nothing: two things that were found and
+//! have one text are one.
+ghost use Rattle.std.specs.Prelude.{◌≡◌, ℕ, ◌^◌, ◌<◌, List, All};
+ghost use Rattle.tg_base.specs.declared.desk.Out.{Out};
+ghost use Rattle.tg_base.specs.declared.desk.Out.TheVariants as out;
+ghost use Rattle.p4_meaning.specs.declared.test.Test.{Test};
+ghost use Rattle.testgen_engine.specs.Findings.{Findings, AreRight, text_of};
+ghost use Rattle.testgen_engine.specs.Skeleton.{StandsFor};
+ghost use Rattle.testgen_engine.specs.Telling.{TestFits, FindingsFit, SameReport, SameTest, SameFindings};
+ghost use Rattle.testgen_engine.specs.TestText.{test_text};
+
+/// A report tells the bounds, the places of the statements, the verdicts, how many tests there are,
+/// and the places of the undecided nibbles of each test.
+pub fn reports_tell_apart()
+    ensures { (f g : Findings) → FindingsFit f → FindingsFit g
+        → text_of f out.Report ≡ text_of g out.Report → SameReport f g }
+{}
+
+/// The text of a test tells its number, its credits, its input and what it expects, but not which of
+/// the nibbles that may have any digit are undecided.
+pub fn tests_tell_apart()
+    ensures { (number other : ℕ) (credits others : List ℕ) (t u : Test)
+        → number < 2 ^ 32 → other < 2 ^ 32
+        → All (λ credit. credit < 2 ^ 32) credits → All (λ credit. credit < 2 ^ 32) others
+        → TestFits t → TestFits u → test_text number credits t ≡ test_text other others u
+        → SameTest number other credits others t u }
+{}
+
+/// All outputs together tell all that was found, but what the statements of the program do.
+pub fn outputs_fix_findings()
+    ensures { (f g : Findings) → FindingsFit f → FindingsFit g
+        → ((out : Out) → text_of f out ≡ text_of g out) → SameFindings f g }
+{}
+
+/// Right findings of the program of a source fit, so the laws above suppose nothing more of them.
+pub fn right_findings_fit()
+    ensures { (f : Findings) (bytes : List ℕ) → AreRight f → StandsFor bytes f.program
+        → FindingsFit f }
+{}
+
+/// So two calls that finish and print the same have found the same: the headline says that what was
+/// found is right and its program is that of a source, and this law supposes nothing more.
+pub fn right_outputs_fix_findings()
+    ensures { (f g : Findings) (bytes others : List ℕ) → AreRight f → AreRight g
+        → StandsFor bytes f.program → StandsFor others g.program
+        → ((out : Out) → text_of f out ≡ text_of g out) → SameFindings f g }
+{}
