@@ -1,19 +1,21 @@
 -- No smaller mask is right: each tainted bit of a result differs for some of the numbers that the operands stand for.
 use Rattle.std.proofs.Common.{◌≡◌, ◌≢◌, ℕ, ◌+◌, ◌-◌, ◌^◌, ◌<◌, ◌≤◌, refl, sym, ap, ◌∙◌, arith, ⊎_elim}
-use Rattle.std.specs.Prelude.{◌==◌, nat_lt, if◌then◌else◌, min, max, bit_and, bit_or, bit_xor}
+use Rattle.std.specs.Prelude.{Bool, true, false, pos, ◌==◌, nat_lt, if◌then◌else◌, min, max, bit_and, bit_or, bit_xor}
 use Rattle.std.specs.Int.{bit_at}
 use Rattle.std.proofs.lemmas.Bool.{cases_lt, cond-true, eq-eqb}
-use Rattle.std.proofs.lemmas.Nat.{pow_pos, or_lt, xor_lt, pow_below}
+use Rattle.std.proofs.lemmas.Nat.{mod_below, pow_pos, or_lt, xor_lt, pow_below}
 use Rattle.std.proofs.lemmas.Nat.Bits.{bit_at_above, bit_at_and, bit_at_or, bit_at_xor, bit_at_cat_low, bit_at_cat_high, bit_at-pow_same, bit_at-pow_other, bit_at-lt}
 use Rattle.bits_core.specs.declared.operator.Op.{Op}
 use Rattle.bits_core.specs.declared.operator.Op.TheVariants.{And, Or, Xor, Not, Shl, ShrU, ShrS, Cat}
+use Rattle.bits_core.specs.Number.{signed_value, slice_value, extend_value}
 use Rattle.bits_core.specs.Operator.{operator_value}
+use Rattle.bits_core.proofs.Widths.{wrapped-below}
 use Rattle.bits_core.proofs.RowLaws.{operator_value-below}
 use Rattle.taint_domain.specs.declared.tainted.Tainted.{Tainted}
 use Rattle.taint_domain.specs.Masks.{taint_of, shifted_mask, may_be_one, may_be_zero}
-use Rattle.taint_domain.specs.Precision.{MayDiffer}
+use Rattle.taint_domain.specs.Precision.{MayDiffer, MayChange}
 use Rattle.taint_domain.specs.Tainted.{StandsFor, IsClear}
-use Rattle.taint_domain.proofs.Places.{bit_at-shl, bit_at-shr, bit_at-shr_signed, bit_at-turned}
+use Rattle.taint_domain.proofs.Places.{bit_at-slice_value, bit_at-extend_value_signed, bit_at-extend_value_unsigned, bit_at-shl, bit_at-shr, bit_at-shr_signed, bit_at-turned}
 use Rattle.taint_domain.proofs.Soundness.{mask_fits, same_number}
 
 pub own : (v : Tainted) → StandsFor v v.number.value
@@ -70,21 +72,48 @@ zero_at v i may =
 
 -- ---- operators that move bits
 
+moved_changes : (f : ℕ → ℕ) (v : Tainted) (i from : ℕ) → bit_at v.mask.value from ≡ 1
+    → ((z : ℕ) → z < 2 ^ v.number.width → bit_at (f z) i ≡ bit_at z from) → MayChange f v i
+moved_changes f v i from set place =
+    let x = turned v.number.value from in
+    let stands : StandsFor v x = turned_stands v from set in
+    record {
+      x = x;
+      stands = stands;
+      differs = λ same.
+          let e : bit_at x from ≡ bit_at v.number.value from = sym (place x stands.fits) ∙ same ∙ place v.number.value v.number.fits in
+          absurd (omega (arith, turned_same v.number.value from));
+    }
+
+pub slice_changes : (v : Tainted) (high low i : ℕ) → bit_at (slice_value v.mask.value high low) i ≡ 1 →
+    MayChange (λ x. slice_value x high low) v i
+slice_changes v high low i set =
+    let n = high - low + 1 in
+    let inside : i < n = within n (slice_value v.mask.value high low) i (mod_below _ (2 ^ n) (pow_pos n)) set in
+    moved_changes (λ x. slice_value x high low) v i (low + i) (sym (bit_at-slice_value v.mask.value high low i inside) ∙ set)
+    (λ z h. bit_at-slice_value z high low i inside)
+
+pub extension_changes : (signed : Bool) (v : Tainted) (width i : ℕ) → bit_at (extend_value signed v.number.width v.mask.value width) i ≡ 1 →
+    MayChange (λ x. extend_value signed v.number.width x width) v i
+extension_changes true v width i set =
+    let w = v.number.width in
+    let inside : i < width = within width (extend_value true w v.mask.value width) i (wrapped-below width (signed_value w v.mask.value)) set in
+    moved_changes (λ x. extend_value true w x width) v i (min i (w - 1))
+    (sym (bit_at-extend_value_signed w v.mask.value width i v.number.some_bit (mask_fits v) inside) ∙ set)
+    (λ z h. bit_at-extend_value_signed w z width i v.number.some_bit h inside)
+extension_changes false v width i set =
+    let w = v.number.width in
+    let inside : i < width = within width (extend_value false w v.mask.value width) i (wrapped-below width (pos v.mask.value)) set in
+    moved_changes (λ x. extend_value false w x width) v i i
+    (sym (bit_at-extend_value_unsigned w v.mask.value width i inside) ∙ set)
+    (λ z h. bit_at-extend_value_unsigned w z width i inside)
+
 moved_differs : (op : Op) (a b : Tainted) (i from : ℕ) → bit_at a.mask.value from ≡ 1
     → ((z : ℕ) → z < 2 ^ a.number.width → bit_at (operator_value op a.number.width z b.number.width b.number.value) i ≡ bit_at z from)
     → MayDiffer op a b i
 moved_differs op a b i from set place =
-    let x = turned a.number.value from in
-    let stands : StandsFor a x = turned_stands a from set in
-    record {
-      x = x;
-      y = b.number.value;
-      first = stands;
-      second = own b;
-      differs = λ same.
-          let e : bit_at x from ≡ bit_at a.number.value from = sym (place x stands.fits) ∙ same ∙ place a.number.value a.number.fits in
-          absurd (omega (arith, turned_same a.number.value from));
-    }
+    let change = moved_changes (λ z. operator_value op a.number.width z b.number.width b.number.value) a i from set place in
+    record { x = change.x; y = b.number.value; first = change.stands; second = own b; differs = change.differs }
 
 pub cat_differs : (a b : Tainted) (i : ℕ) → bit_at (taint_of Cat a b) i ≡ 1 → MayDiffer Cat a b i
 cat_differs a b i set =

@@ -1,4 +1,4 @@
-use Rattle.taint_domain.proofs.Precision.{and_differs, or_differs, xor_differs, not_differs, cat_differs, shl_differs, shr_unsigned_differs, shr_signed_differs}
+use Rattle.taint_domain.proofs.Precision.{and_differs, or_differs, xor_differs, not_differs, cat_differs, shl_differs, shr_unsigned_differs, shr_signed_differs, slice_changes, extension_changes}
 use Rattle.taint_domain.proofs.laws.masks_are_the_least.Goals as goal
 
 pub returns-clause-conjunction : goal.returns-clause-conjunction
@@ -24,3 +24,9 @@ returns-clause-right c = shr_unsigned_differs
 
 pub returns-clause-signed_right : goal.returns-clause-signed_right
 returns-clause-signed_right c = shr_signed_differs
+
+pub returns-clause-slice : goal.returns-clause-slice
+returns-clause-slice c = slice_changes
+
+pub returns-clause-extension : goal.returns-clause-extension
+returns-clause-extension c = extension_changes
