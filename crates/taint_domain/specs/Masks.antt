@@ -24,6 +24,7 @@ shifted_mask op a b =
     if b.mask.value == 0 then operator_value op a.number.width a.mask.value b.number.width b.number.value
     else (2 ^ a.number.width - 1)
 
+-- the tainted bits of the operator's result
 abbrev pub taint_of : Op → Tainted → Tainted → ℕ
 -- bit by bit: a bit is tainted where one of an operand is, but not where the other operand settles it
 taint_of And a b = bit_and (bit_or a.mask.value b.mask.value) (bit_and (may_be_one a) (may_be_one b))
@@ -35,14 +36,15 @@ taint_of Cat a b = operator_value Cat a.number.width a.mask.value b.number.width
 taint_of Shl a b = shifted_mask Shl a b
 taint_of ShrU a b = shifted_mask ShrU a b
 taint_of ShrS a b = shifted_mask ShrS a b
--- the others
+-- operators that carry from bit to bit, and comparisons: all of the result where an operand has taint
 taint_of op a b = all_or_none (result_width (shape_of op) a.number.width b.number.width) a.mask.value b.mask.value
 
--- the side that a known flag names; under an unknown one a bit is tainted where it is on a side, or where the sides differ
+-- the first side's number, tainted where a side is and where the sides differ
 pub record IsMix (a b v : Tainted) : Type 0 where
   pub number : v.number ≡ a.number
   pub mask : v.mask.value ≡ bit_or (bit_or a.mask.value b.mask.value) (bit_xor a.number.value b.number.value)
 
+-- the side that a known flag names, and under an unknown one the mix of both
 abbrev pub IsChoice : TaintFlag → Tainted → Tainted → Tainted → Type 0
 IsChoice (Known t) a b v = v ≡ (if t then a else b)
 IsChoice Unknown a b v = IsMix a b v

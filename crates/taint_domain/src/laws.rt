@@ -1,10 +1,10 @@
-//! What a mask promises, and what it may not leave out, each law the contract of a function that does nothing. The lemmas of the same content are in
-//! `proofs/`, where a proof takes them from.
+//! What a mask promises and what it may not leave out, each law the contract of a function that does nothing. The lemmas of
+//! the same content are in `proofs/`, where a proof takes them from.
 ghost use Rattle.std.specs.Prelude.{◌≡◌, ℕ, Bool};
 ghost use Rattle.std.specs.Int.{bit_at};
-ghost use Rattle.taint_domain.specs.declared.tainted.Tainted.{Tainted};
 ghost use Rattle.bits_core.specs.Number.{slice_value, extend_value};
 ghost use Rattle.bits_core.specs.declared.operator.Op.TheVariants.{And, Or, Xor, Not, Shl, ShrU, ShrS, Cat};
+ghost use Rattle.taint_domain.specs.declared.tainted.Tainted.{Tainted};
 ghost use Rattle.taint_domain.specs.Masks.{taint_of};
 ghost use Rattle.taint_domain.specs.Precision.{MayDiffer, MayChange};
 ghost use Rattle.taint_domain.specs.Tainted.{StandsFor, IsClear};
