@@ -1,0 +1,5 @@
+pub mod Places
+pub mod Precision
+pub mod Soundness
+pub mod Stands
+pub mod Told

@@ -1,0 +1,4 @@
+pub mod Flag
+pub mod Masks
+pub mod Precision
+pub mod Tainted
