@@ -1,5 +1,5 @@
 // The rows that compare.
-ghost use Rattle.std.specs.Prelude.{◌≡◌, ◌==◌, nat_lt, nat_le, int_lt, int_le, if◌then◌else◌, Bool};
+ghost use Rattle.std.specs.Prelude.{◌≡◌, ◌==◌, nat_lt, nat_le, int_lt, int_le, if◌then◌else◌};
 ghost use Rattle.bits_core.specs.Number.{signed_value};
 
 use crate::number::Bits;

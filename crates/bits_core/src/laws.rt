@@ -5,7 +5,7 @@ ghost use Rattle.std.specs.Int.{int_div_euclid};
 ghost use Rattle.bits_core.specs.declared.number.Bits.{Bits};
 ghost use Rattle.bits_core.specs.declared.operator.Op.{Op};
 ghost use Rattle.bits_core.specs.declared.operator.Op.TheVariants.{Add, Sub, Mul, AddSatU, SubSatU, AddSatS, SubSatS, And, Or, Xor, Not, Neg, Shl, ShrU, ShrS, Cat};
-ghost use Rattle.bits_core.specs.BitList.{bit, bit_value, number_of, bits_of, sign_bit};
+ghost use Rattle.bits_core.specs.BitList.{bit, number_of, bits_of, sign_bit};
 ghost use Rattle.bits_core.specs.Circuit.{shifted_left, shifted_right, exclusive_or, bitwise, signed_sum_or_end, signed_difference_or_end, sum_bit, ripple_sum, ripple_carry, shift_and_add, barrel_left, barrel_right, equal_bits, sign_turned};
 ghost use Rattle.bits_core.specs.Number.{signed_value, wrapped, slice_value, extend_value};
 ghost use Rattle.bits_core.specs.Operator.{WidthsFit, shape_of, result_width, operator_value, row_of};

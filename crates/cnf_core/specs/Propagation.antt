@@ -7,10 +7,6 @@ use Rattle.cnf_core.specs.Literal.{LitSet, denial}
 abbrev pub Leaves : LitSet → List Lit → Lit → Type 0
 Leaves set clause l = All (λ k. k ≢ l → IsTrue (set (denial k))) clause
 
--- each literal of the clause is denied by the set
-abbrev pub Denies : LitSet → List Lit → Type 0
-Denies set clause = All (λ k. IsTrue (set (denial k))) clause
-
 -- a set that has the decided literals and, where a clause leaves one literal, that literal
 pub record IsClosed (clauses : List (List Lit)) (decided : List Lit) (set : LitSet) : Type 0 where
   pub decides : All (λ l. IsTrue (set l)) decided

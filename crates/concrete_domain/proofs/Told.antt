@@ -1,11 +1,6 @@
--- From what an operation always gives to what the trait says of it.
-use Rattle.std.proofs.Common.{◌≡◌, ℕ, Bool, true, false, if◌then◌else◌, ap, sym, ◌∙◌, Some, Result, Ok, Err, IfOk}
-use Rattle.std.specs.Prelude.{IsOkAnd}
+-- From what an operation gives on numbers to what the trait says of it.
+use Rattle.std.proofs.Common.{◌≡◌, ℕ, Bool, true, false, if◌then◌else◌, ap, sym, ◌∙◌, Some}
 use Rattle.bits_core.specs.declared.number.Bits.{Bits}
-
-pub from_ok : {T E : Type 0} (r : Result T E) (P Q : T → Type 0) → ((x : T) → P x → Q x) → IsOkAnd r P → IfOk r Q
-from_ok (Ok x) P Q f h = f x h
-from_ok (Err e) P Q f h = absurd h
 
 -- a result on operands is one on what the operands stand for
 pub at_one : {A C : Type 0} (f : A → C) (v : C) (a x : A) → v ≡ f a → a ≡ x → v ≡ f x

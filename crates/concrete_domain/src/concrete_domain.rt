@@ -1,5 +1,5 @@
 //! Values that stand for themselves.
-ghost use Rattle.std.specs.Prelude.{◌≡◌, ◌≢◌, ℕ, List, ◌+◌, ◌-◌, ◌<◌, ◌≤◌, ◌==◌, ◌&&◌, ◌||◌, not, Some, IsOkAnd, IsSomeAnd, slice_get, if◌then◌else◌};
+ghost use Rattle.std.specs.Prelude.{◌≡◌, List, ◌+◌, ◌-◌, ◌<◌, ◌≤◌, ◌==◌, ◌&&◌, ◌||◌, not, Some, IsOkAnd, slice_get, if◌then◌else◌};
 ghost use Rattle.bits_core.specs.Number.{slice_value, extend_value};
 ghost use Rattle.bits_core.specs.Operator.{WidthsFit, shape_of, result_width, operator_value};
 ghost use Rattle.bits_core.specs.declared.number.Bits.{Bits as Number};

@@ -1,6 +1,6 @@
 -- Laws of the checks of a row.
 use Rattle.std.proofs.Common.{◌≡◌, ◌≢◌, ℕ, zero, suc, ◌+◌, ◌<◌, ◌≤◌, Bool, true, false, eqb, leb, cond, List, [], ◌∷◌, ◌++◌, length, get_or, take, drop, refl, sym, ap, ◌∙◌, subst, inl, inr, arith}
-use Rattle.std.specs.Prelude.{IsTrue, ◌↔◌, MatchOption, ◌==◌}
+use Rattle.std.specs.Prelude.{IsTrue, ◌↔◌}
 use Rattle.std.specs.List.{AllByRecursion}
 use Rattle.std.proofs.lemmas.Bool.{cases_lt, leb-true, le-leb, eqb-true, eq-eqb, false≢true}
 use Rattle.std.proofs.lemmas.List.{take-append-drop, drop_more, length-take-le, get_or_at, length-append}
@@ -77,11 +77,6 @@ begins_below size g below k r h t b = first_below size g below b.symbol t (part_
     part_below : (before : List ℕ) (y : ℕ) (after : List ℕ) → AllByRecursion (λ z. z < size) (before ++ y ∷ after) → y < size
     part_below [] y after h = h.0
     part_below (z ∷ before) y after h = part_below before y after h.1
-
--- a token that both this row and another one begin with
-pub shares_from : (g : List Row) (k : ℕ) (r : Row) (t : ℕ) (marks : List Bool) → IsRow g k r → MarksBegunRows g t marks → Has marks k → OtherMarked g k r marks → SharesFirst g k r
-shares_from g k r t marks h m here o =
-    record { token = t; j = o.0; s = o.1; other = o.2; here = (m k r h).0 here; there = (m o.0 o.1 o.2.row).0 o.3 }
 
 pub shares_marked : (g : List Row) (k : ℕ) (r : Row) (marks : List Bool) (s : SharesFirst g k r) → MarksBegunRows g s.token marks → OtherMarked g k r marks
 shares_marked g k r marks s m = (s.j, s.s, s.other, (m s.j s.s s.other.row).1 s.there)

@@ -7,7 +7,7 @@ use Rattle.std.proofs.lemmas.Bool.{cases_eq, and_parts, and_from, or_parts, or_c
 use Rattle.ll1_engine.specs.declared.grammar.Row.{Row}
 use Rattle.ll1_engine.specs.Table.{IsRow}
 use Rattle.ll1_engine.specs.Trees.{Trees, End, Leaf, Node, roots, leaves, AreTrees}
-use Rattle.ll1_engine.specs.Marks.{marked, Has, unmarked, all_in, begins_in, follows_in, Widens, DerivesWithin, AllDerive, ClosedAt, Within}
+use Rattle.ll1_engine.specs.Marks.{marked, Has, unmarked, all_in, begins_in, Widens, DerivesWithin, AllDerive, ClosedAt, Within}
 use Rattle.ll1_engine.proofs.Beside.{beside, roots-beside, leaves-beside, AreTrees-beside, same_row}
 
 -- one mark more, where there was none
@@ -42,9 +42,6 @@ Widens-set marks i lt = by_mark (get_or marks i false) refl
     by_mark false e =
         let k : unmarked marks ≡ suc (unmarked (set marks i true)) = unmarked-set_new marks i lt e in
         record { size = length-set marks i true; grows = λ x h. marked-set marks i x lt h; no_more = omega arith; fewer = λ f. (omega arith); same = λ f. absurd (false≢true (sym f)) }
-
-pub Widens-refl : (marks : List Bool) → Widens marks marks false
-Widens-refl marks = record { size = refl; grows = λ x h. h; no_more = omega arith; fewer = λ f. absurd (false≢true f); same = λ f. refl }
 
 pub Widens-then : (a b c : List Bool) (p q : Bool) → Widens a b p → Widens b c q → Widens a c (p || q)
 Widens-then a b c true q v w =
@@ -141,13 +138,4 @@ begins_within marks p nullable w (x ∷ xs) h =
       | inr past ↦ (
           let both = and_parts (nullable x) (begins_in (marked marks) nullable xs) past in
           or_right (p x) (nullable x && begins_in p nullable xs) (and_from (nullable x) (begins_in p nullable xs) both.0 (begins_within marks p nullable w xs both.1)))
-    ]
-
-pub follows_within : (marks : List Bool) (first p nullable : ℕ → Bool) → Within marks p → (x : ℕ) (after : List ℕ) → IsTrue (follows_in first nullable (marked marks) x after) → IsTrue (follows_in first nullable p x after)
-follows_within marks first p nullable w x after h =
-    elim (or_cases (begins_in first nullable after) (marked marks x && all_in nullable after) h) [
-      | inl next ↦ or_left (begins_in first nullable after) (p x && all_in nullable after) next
-      | inr left ↦ (
-          let both = and_parts (marked marks x) (all_in nullable after) left in
-          or_right (begins_in first nullable after) (p x && all_in nullable after) (and_from (p x) (all_in nullable after) (w x both.0) both.1))
     ]

@@ -1,5 +1,5 @@
 -- The loop of the parser, over plain lists: the start, each step, each stop and the end.
-use Rattle.std.proofs.Common.{◌≡◌, ℕ, ◌+◌, ◌<◌, ◌≤◌, List, [], ◌∷◌, ◌++◌, length, take, drop, get_or, Option, None, Some, Result, Ok, Err, Bool, true, refl, sym, ap, ◌∙◌, subst, inl, inr, ◌⊎◌, arith}
+use Rattle.std.proofs.Common.{◌≡◌, ℕ, ◌+◌, ◌<◌, ◌≤◌, List, [], ◌∷◌, ◌++◌, length, take, drop, get_or, Option, None, Some, Result, Ok, Err, Bool, true, sym, ap, ◌∙◌, subst, inl, inr, arith}
 use Rattle.std.proofs.lemmas.List.{take-append-drop, length-take-le, take_more, drop_more, drop_all, take_all}
 use Rattle.std.specs.Prelude.{OnOk, is_ok}
 use Rattle.std.specs.List.{AllByRecursion}
@@ -51,10 +51,6 @@ predicted g x (Some t) k (inr p) = (p.1.0, p.1.1, p.1.2)
 some_first : (ts : List ℕ) (t : ℕ) → first_or ts None ≡ Some t → (us : List ℕ) × (ts ≡ t ∷ us)
 some_first [] t e = absurd (cc)
 some_first (x ∷ ts) t e = let same : x ≡ t = cc in (ts, ap (λ (z : ℕ). z ∷ ts) same)
-
-none_first : (ts : List ℕ) → first_or ts None ≡ None → ts ≡ []
-none_first [] e = refl
-none_first (x ∷ ts) e = absurd (cc)
 
 module _ (n rows_count : ℕ) (g : List Row) (good : IsGood g) (fits : FitsIn n rows_count g) (tokens : List ℕ) (known : Known n g tokens) where
   pub under_way_start : (stack : List ℕ) → stack ≡ 0 ∷ [] → IsUnderWay n g tokens 0 [] stack

@@ -1,5 +1,5 @@
 -- What is found out for one token more, and what a marked row for each symbol says.
-use Rattle.std.proofs.Common.{◌≡◌, ℕ, ◌+◌, Bool, List, [], ◌∷◌, ◌++◌, get_or, Option, None, Some, refl, sym, ap, ◌∙◌, subst, inl, inr, arith}
+use Rattle.std.proofs.Common.{◌≡◌, ℕ, ◌+◌, Bool, List, [], ◌∷◌, ◌++◌, get_or, Option, None, Some, sym, ap, ◌∙◌, subst, inl, inr, arith}
 use Rattle.std.proofs.lemmas.Bool.{cases_lt}
 use Rattle.std.proofs.lemmas.List.{get_or_append_left, get_or_push, length_push}
 use Rattle.ll1_engine.specs.declared.grammar.Row.{Row}
@@ -13,9 +13,6 @@ use Rattle.ll1_engine.proofs.SetLaws.{all_nullable, begins_exact}
 pub IsSight-same : (size : ℕ) (g : List Row) (t : ℕ) (b b' f f' : List Bool) (c c' : List (Option ℕ)) → b' ≡ b → f' ≡ f → c' ≡ c → IsSight size g t b f c → IsSight size g t b' f' c'
 IsSight-same size g t b b' f f' c c' p q u h =
     subst (λ (z : List Bool). IsSight size g t z f' c') (sym p) (subst (λ (z : List Bool). IsSight size g t b z c') (sym q) (subst (λ (z : List (Option ℕ)). IsSight size g t b f z) (sym u) h))
-
-pub AreSights-none : (size : ℕ) (g : List Row) → AreSights 0 size g [] [] []
-AreSights-none size g = record { begun_count = refl; follow_count = refl; first_count = refl; each = λ t lt. absurd (omega arith) }
 
 pub AreSights-push : (n size : ℕ) (g : List Row) (begun follows : List (List Bool)) (firsts : List (List (Option ℕ))) (b f : List Bool) (c : List (Option ℕ))
     → AreSights n size g begun follows firsts → IsSight size g n b f c → AreSights (n + 1) size g (begun ++ b ∷ []) (follows ++ f ∷ []) (firsts ++ c ∷ [])

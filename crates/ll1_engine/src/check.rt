@@ -1,12 +1,12 @@
 //! The judgement of a table: the five conditions of a row, in their order, and the first row that breaks one.
 
-ghost use Rattle.std.specs.Prelude.{◌≡◌, ◌≢◌, ℕ, ◌<◌, ◌≤◌, ◌↔◌, List, Bool, length, slice_index, slice_index_or, Some, None, Err, IsTrue, IfOk, IfSome, OnOk, MatchOption, MatchBool, if◌then◌else◌, ◌==◌};
+ghost use Rattle.std.specs.Prelude.{◌≡◌, ◌≢◌, ℕ, ◌<◌, ◌≤◌, ◌↔◌, length, slice_index, Some, None, Err, IsTrue, IfOk, IfSome, OnOk, MatchOption, MatchBool, if◌then◌else◌, ◌==◌};
 ghost use Rattle.ll1_engine.specs.declared.grammar.Row.{Row};
 ghost use Rattle.ll1_engine.specs.declared.fault.Break.{Break};
 ghost use Rattle.ll1_engine.specs.declared.fault.TableFault.{TableFault};
-ghost use Rattle.ll1_engine.specs.Table.{IsRow, IsToken};
+ghost use Rattle.ll1_engine.specs.Table.{IsRow};
 ghost use Rattle.ll1_engine.specs.Conditions.{IsOther, StandsOnlyFirstIn, MayRank, SharesFirst, Meets, Breaks, place_of, IsGood, IsFirstBreak};
-ghost use Rattle.ll1_engine.specs.Survey.{AreBelow, MarksTokens, MarksEmptyRows, AreAllSights, IsSurvey, OtherMarked, HasPlainTwin, BeginsAndFollows};
+ghost use Rattle.ll1_engine.specs.Survey.{AreBelow, MarksTokens, AreAllSights, IsSurvey, OtherMarked, HasPlainTwin, BeginsAndFollows};
 
 use crate::checked::Checked;
 use crate::fault::{Break, CheckFault, TableFault};

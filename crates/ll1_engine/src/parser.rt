@@ -1,6 +1,6 @@
 //! The parser: a stack of the symbols that are still to be derived, and one look at the table a step.
 
-ghost use Rattle.std.specs.Prelude.{◌≡◌, ℕ, ◌<◌, ◌↔◌, ◌++◌, ◌∷◌, [], List, length, drop, Some, None, Err, IsTrue, IfOk, OnOk, OnErr, MatchOption};
+ghost use Rattle.std.specs.Prelude.{◌≡◌, ℕ, ◌<◌, ◌↔◌, ◌++◌, ◌∷◌, [], List, drop, Some, None, Err, IsTrue, IfOk, OnOk, MatchOption};
 ghost use Rattle.std.specs.List.{AllByRecursion};
 ghost use Rattle.ll1_engine.specs.declared.fault.Stop.{Stop};
 ghost use Rattle.ll1_engine.specs.Table.{IsToken};

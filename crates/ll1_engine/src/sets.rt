@@ -1,9 +1,9 @@
 //! Least sets of symbols, as marks that passes over the rows widen until a pass adds nothing.
 
-ghost use Rattle.std.specs.Prelude.{◌≡◌, ℕ, ◌<◌, ◌↔◌, ◌++◌, ◌∷◌, [], List, Bool, true, length, drop, ◌+◌, slice_set, IsTrue, IsFalse};
+ghost use Rattle.std.specs.Prelude.{◌≡◌, ℕ, ◌<◌, ◌↔◌, ◌∷◌, [], List, Bool, true, length, ◌+◌, slice_set, IsFalse};
 ghost use Rattle.std.specs.List.{AllByRecursion};
 ghost use Rattle.ll1_engine.specs.declared.grammar.Row.{Row};
-ghost use Rattle.ll1_engine.specs.Table.{IsRow, IsToken, RowIsBelow};
+ghost use Rattle.ll1_engine.specs.Table.{IsRow, RowIsBelow};
 ghost use Rattle.ll1_engine.specs.Marks.{marked, Has, all_in, begins_in, Widens, DerivesWithin, AllDerive, ClosedAt, FirstClosedAt, follows_in, FollowClosedAt, FollowClosed, Within};
 
 use crate::grammar::{Row, Symbol};

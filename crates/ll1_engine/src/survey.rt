@@ -1,10 +1,10 @@
 //! What is found out of a table before its rows are judged: tokens, symbols that derive something or the empty
 //! list, FIRST and FOLLOW for each token, and the row that each token predicts for a symbol.
 
-ghost use Rattle.std.specs.Prelude.{◌≡◌, ℕ, ◌<◌, ◌↔◌, List, Bool, length, slice_index_or, None, IfOk};
+ghost use Rattle.std.specs.Prelude.{◌≡◌, ℕ, ◌<◌, length, slice_index_or, None, IfOk};
 ghost use Rattle.ll1_engine.specs.declared.grammar.Row.{Row};
-ghost use Rattle.ll1_engine.specs.Table.{IsRow, IsToken};
-ghost use Rattle.ll1_engine.specs.Marks.{marked, Has, all_in, begins_in};
+ghost use Rattle.ll1_engine.specs.Table.{IsRow};
+ghost use Rattle.ll1_engine.specs.Marks.{marked, all_in, begins_in};
 ghost use Rattle.ll1_engine.specs.Survey.{AreBelow, MarksTokens, MarksAlive, MarksNullable, MarksFirst, MarksFollow, PicksMarked, IsSight, AreAllSights, IsSurvey};
 
 use crate::checked::Choices;

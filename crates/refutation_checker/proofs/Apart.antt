@@ -1,17 +1,13 @@
 -- No variable stands twice: in a list with one more literal, in a front, and in the list of denials.
-use Rattle.std.proofs.Common.{◌≡◌, ◌≢◌, ℕ, ◌<◌, List, [], ◌∷◌, ◌++◌, length, get_or, take, drop, map, inl, inr, refl, ap, sym, ◌∙◌, subst, arith, length-append}
+use Rattle.std.proofs.Common.{◌≡◌, ◌≢◌, ℕ, ◌<◌, List, [], ◌∷◌, ◌++◌, length, get_or, take, drop, map, inl, inr, ap, sym, ◌∙◌, subst, arith, length-append}
 use Rattle.std.specs.Prelude.{Contains}
 use Rattle.std.proofs.lemmas.List.{get_or_append_left, get_or-map, take-append-drop, length-map}
-use Rattle.std.proofs.Math.Seq.{get_or-append_seam}
 use Rattle.std.proofs.lemmas.List.Elements.{Contains-get_or}
 use Rattle.std.proofs.lemmas.List.Quantifiers.{all_pairs_push}
 use Rattle.cnf_core.specs.declared.formula.Lit.{Lit}
 use Rattle.cnf_core.specs.Literal.{denial, IsApart}
 use Rattle.cnf_core.proofs.Literals.{same_var-cases}
 use Rattle.refutation_checker.specs.Hints.{IsOpen}
-use Rattle.refutation_checker.specs.Assigned.{StandsAs}
-use Rattle.refutation_checker.specs.declared.assignment.Truth.{Truth}
-use Rattle.refutation_checker.specs.declared.assignment.Truth.TheVariants.{True, False, Open}
 
 -- an open literal has a variable of its own
 pub apart-open : (trail : List Lit) (l : Lit) → IsApart trail → IsOpen trail l → IsApart (trail ++ l ∷ [])
@@ -20,14 +16,6 @@ apart-open trail l apart is_open = all_pairs_push (λ k m. k.var ≢ m.var) trai
       | inl is_l ↦ is_open.0 (subst (Contains trail) is_l (Contains-get_or trail k d inside))
       | inr denied ↦ is_open.1 (subst (Contains trail) denied (Contains-get_or trail k d inside))
     ])
-
--- and a literal of a variable that is there has not
-pub apart-taken : (trail : List Lit) (x l : Lit) → Contains trail x → x.var ≡ l.var → IsApart (trail ++ l ∷ []) → ⊥
-apart-taken trail x l (k, inside, at) same apart =
-    let first : get_or (trail ++ l ∷ []) k x ≡ x = get_or_append_left trail (l ∷ []) x k inside ∙ at in
-    let last : get_or (trail ++ l ∷ []) (length trail) x ≡ l = get_or-append_seam trail l [] x in
-    apart k (length trail) x inside (omega (arith, length-append trail (l ∷ [])))
-    (ap (λ (m : Lit). m.var) first ∙ same ∙ ap (λ (m : Lit). m.var) (sym last))
 
 pub apart-front : (xs ys : List Lit) → IsApart (xs ++ ys) → IsApart xs
 apart-front xs ys apart i j d below inside same =
@@ -49,9 +37,3 @@ pub apart-from_denials : (xs : List Lit) → IsApart (map denial xs) → IsApart
 apart-from_denials xs apart i j d below inside same =
     let size = length-map xs denial in
     apart i j d below (omega arith) (var-denials xs i d (omega arith) ∙ same ∙ sym (var-denials xs j d (omega arith)))
-
--- a literal that is not open has its variable on the trail
-pub apart-set : (trail : List Lit) (l : Lit) (t : Truth) → StandsAs trail l t → (t ≡ Open → ⊥) → IsApart (trail ++ l ∷ []) → ⊥
-apart-set trail l True says not_open = apart-taken trail l l says.0 refl
-apart-set trail l False says not_open = apart-taken trail (denial l) l says.0 refl
-apart-set trail l Open says not_open = absurd (not_open refl)

@@ -39,9 +39,6 @@ sets-unit clauses decided trail clause l are stands unit set closed = closed.clo
   leaves : Leaves set clause l
   leaves k d inside differs = All-contains (Sets clauses decided) trail (denial (get_or clause k d)) are (unit.alone k d inside differs) set closed
 
-pub grew-itself : (clauses : List (List Lit)) (trail : List Lit) → Grew clauses trail trail
-grew-itself clauses trail = record { keeps = λ l h. h; sound = λ decided h. h }
-
 pub grew-unit : (clauses : List (List Lit)) (old trail clause : List Lit) (l : Lit) →
     Grew clauses old trail → Contains clauses clause → IsUnit trail clause l → Grew clauses old (trail ++ l ∷ [])
 grew-unit clauses old trail clause l grew stands unit = record {

@@ -21,10 +21,6 @@ one_unit trail clause k l h j = elim (lit-cases k l) [
   | inr differs ↦ absurd (h.is_open.1 (All-contains (λ x. x ≢ l → IsFalse trail x) clause k j.alone h.stands differs))
 ]
 
-pub hint-denied : (clauses : List (List Lit)) (trail : List Lit) (hint : ℕ) (hints : List ℕ) →
-    IsHintState clauses trail hint Denied → HintsConflict clauses trail (hint ∷ hints)
-hint-denied clauses trail hint hints (clause, number, denied) = (clause, number, inl denied)
-
 pub hint-onward : (clauses : List (List Lit)) (trail : List Lit) (hint : ℕ) (hints : List ℕ) (l : Lit) →
     IsHintState clauses trail hint (UnitOf l) → HintsConflict clauses (trail ++ l ∷ []) hints → HintsConflict clauses trail (hint ∷ hints)
 hint-onward clauses trail hint hints l (clause, number, unit) rest = (clause, number, inr (l, unit, rest))

@@ -123,19 +123,6 @@ stands_true values trail l h here =
 abbrev pub OnTrail : List Truth → List Lit → Type 0
 OnTrail values trail = (l : Lit) → get_or values l.var Open ≡ truth_of l.positive → Contains trail l
 
--- the last literal leaves, and its variable is opened
-pub on_trail-pop : (values : List Truth) (trail : List Lit) (l : Lit) → l.var < length values → OnTrail values (trail ++ l ∷ []) → OnTrail (set values l.var Open) trail
-on_trail-pop values trail l inside h k e = elim (cases_eq k.var l.var) [
-  | inl same ↦
-      let opened : get_or (set values l.var Open) k.var Open ≡ Open =
-      ap (λ (v : ℕ). get_or (set values l.var Open) v Open) same ∙ get_or-set_same values l.var Open Open inside in
-      absurd (set_not_open k.positive (sym e ∙ opened))
-  | inr other ↦ elim (Contains-push_cases trail l k (h k (sym (get_or-set_other values l.var k.var Open Open other) ∙ e))) [
-    | inl before ↦ before
-    | inr is_l ↦ absurd (other (ap (λ (m : Lit). m.var) (sym is_l)))
-  ]
-]
-
 -- a literal on the trail has its variable in the row, since that variable is not open there
 pub within : (values : List Truth) (trail : List Lit) → Agrees values trail → IsWithin (length values) trail
 within values trail h k d inside = elim (cases_lt (get_or trail k d).var (length values)) [

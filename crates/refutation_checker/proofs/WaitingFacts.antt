@@ -93,10 +93,6 @@ pub waits-end : (trail : List Lit) (head : ℕ) (clause : List Lit) → length t
 waits-end trail head clause past (inl says) = says
 waits-end trail head clause past (inr (k, stands, ahead)) = absurd (none (denial k) (subst (λ (xs : List Lit). Contains xs (denial k)) (drop_all head trail past) ahead))
 
-pub settles-nothing : (clauses : List (List Lit)) (trail : List Lit) → Settles clauses [] trail trail
-settles-nothing clauses trail head place clause within at (inl waits) = waits
-settles-nothing clauses trail head place clause within at (inr listed) = absurd (none place listed)
-
 pub settles-absent : (clauses : List (List Lit)) (front : List ℕ) (place : ℕ) (old new : List Lit) → length clauses ≤ place →
     Settles clauses front old new → Settles clauses (front ++ place ∷ []) old new
 settles-absent clauses front place old new past h head n clause within at (inl waits) = h head n clause within at (inl waits)

@@ -1,6 +1,6 @@
 // Deciding literals: they are set in order, as long as no variable stands twice.
 ghost use Rattle.std.specs.Prelude.{◌≡◌, ◌<◌, ◌≤◌, ◌++◌, ◌∷◌, [], ◌↔◌, IsTrue, length, map};
-ghost use Rattle.std.specs.Bool.{OnTrue, OnFalse};
+ghost use Rattle.std.specs.Bool.{OnTrue};
 ghost use Rattle.cnf_core.specs.Literal.{denial, IsApart};
 ghost use Rattle.refutation_checker.specs.Assigned.{IsWithin};
 

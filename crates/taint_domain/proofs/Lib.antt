@@ -2,4 +2,3 @@ pub mod Places
 pub mod Precision
 pub mod Soundness
 pub mod Stands
-pub mod Told

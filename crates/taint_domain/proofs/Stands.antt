@@ -19,18 +19,13 @@ use Rattle.taint_domain.specs.Flag.{MayBe}
 use Rattle.taint_domain.specs.Masks.{taint_of, IsChoice}
 use Rattle.taint_domain.specs.Tainted.{IsSameOutside, StandsFor, IsClear}
 use Rattle.taint_domain.proofs.Places.{bit_at-slice_value, bit_at-extend_value_signed, bit_at-extend_value_unsigned}
-use Rattle.taint_domain.proofs.Soundness.{any_number, same_number, untainted, moves, mask_fits, taint_of-sound}
+use Rattle.taint_domain.proofs.Soundness.{any_number, untainted, moves, mask_fits, taint_of-sound}
 
 stands_by : (v : Tainted) (x w m n : ℕ) → v.number.width ≡ w → v.mask.value ≡ m → v.number.value ≡ n → x < 2 ^ w → IsSameOutside m n x → StandsFor v x
 stands_by v x w m n width mask number fits same = record {
   fits = subst (λ (k : ℕ). x < 2 ^ k) (sym width) fits;
   outside = subst (λ (k : ℕ). IsSameOutside k v.number.value x) (sym mask) (subst (λ (k : ℕ). IsSameOutside m k x) (sym number) same);
 }
-
-pub constant_stands : (v : Tainted) (b : Bits) → v.number ≡ b → StandsFor v b.value
-constant_stands v b same =
-    stands_by v b.value b.width v.mask.value b.value (ap (λ (n : Bits). n.width) same) refl (ap (λ (n : Bits). n.value) same) b.fits
-    (same_number v.mask.value b.value b.value refl)
 
 pub unspecified_stands : (v : Tainted) (b : Bits) (w : ℕ) → v.number.width ≡ w → v.mask.value ≡ 2 ^ w - 1 → b.width ≡ w → StandsFor v b.value
 unspecified_stands v b w width mask same =

@@ -1,5 +1,5 @@
 //! Numbers with a mask of bits that a run may change.
-ghost use Rattle.std.specs.Prelude.{◌≡◌, ◌≢◌, ℕ, ◌+◌, ◌-◌, ◌<◌, ◌≤◌, ◌^◌, ◌==◌, Bool, IsOkAnd, if◌then◌else◌};
+ghost use Rattle.std.specs.Prelude.{◌≡◌, ◌+◌, ◌-◌, ◌<◌, ◌≤◌, ◌^◌, ◌==◌, IsOkAnd};
 ghost use Rattle.bits_core.specs.Number.{slice_value, extend_value};
 ghost use Rattle.bits_core.specs.Operator.{WidthsFit, shape_of, result_width, operator_value};
 ghost use Rattle.bits_core.specs.declared.operator.OpShape.TheVariants.{One, Test};

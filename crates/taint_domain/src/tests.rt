@@ -1,5 +1,5 @@
 //! Each operation with taint and without, and code that is generic over a domain at this one.
-ghost use Rattle.std.specs.Prelude.{◌≡◌, ◌≢◌, ℕ, ◌+◌, ◌*◌, ◌%◌, ◌^◌, ◌==◌, IfOk};
+ghost use Rattle.std.specs.Prelude.{◌≡◌, ℕ, ◌+◌, ◌*◌, ◌%◌, ◌^◌, IfOk};
 ghost use Rattle.bits_core.specs.declared.points.Point.{Point};
 
 use crate::{TaintDomain, TaintFlag, Tainted};

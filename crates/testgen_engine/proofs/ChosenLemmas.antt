@@ -47,10 +47,6 @@ numbered_one x y zero e = cc
 numbered_one x y (suc zero) e = (refl, let s : Some x ≡ Some y = e in cc)
 numbered_one x y (suc (suc n)) e = cc
 
-pub numbered_none : {X : Type 0} (y : X) (n : ℕ) → numbered [] n ≡ Some y → ⊥
-numbered_none y zero e = cc
-numbered_none y (suc n) e = cc
-
 -- the credits of test 1 are all statements, and no other test has any
 pub credits_of_one : (first count : ℕ) → credits_from first (all_covered count) 1 ≡ numbers first count
 credits_of_one first zero = refl
@@ -77,10 +73,6 @@ credited_one : (count test : ℕ) (t : Test) → 1 ≤ count → IsSome (numbere
 credited_one count zero t some h = cc
 credited_one count (suc zero) t some h = some_least count some
 credited_one count (suc (suc n)) t some h = cc
-
-none_named : (test : ℕ) → IsSome (numbered {X = Test} [] test) → ⊥
-none_named zero h = cc
-none_named (suc n) h = cc
 
 -- the opening input is bounded
 pub opening_bounded : (p : Program) (b : Bounds) → Bounded p b (opening_input b)
@@ -200,34 +192,6 @@ found_right p b t o some = record {
 pub found_decided : (p : Program) (b : Bounds) (t : Test) → IsOpening p b t → IsUndecided (found p b (t ∷ [])) → ⊥
 found_decided p b t o (inl statement) = covered_not_undecided (length p.statements) statement
 found_decided p b t o (inr nibble) = decided p b t o (subst (λ u. HasUndecided u.expected) (sym (numbered_one t nibble.1 nibble.0 nibble.2).1) nibble.3)
-
--- and so is what is found of a program with none
-pub none_right : (p : Program) (b : Bounds) → length p.statements ≡ 0 → AreRight (found p b [])
-none_right p b none =
-    let budget = b.some_budget in
-    record {
-      verdicts = record {
-        one_each = length-replicate (length p.statements) (verdict.Covered 1);
-        right = λ statement v e. let named = numbered-replicate (length p.statements) statement (verdict.Covered 1) v e in absurd (omega arith);
-      };
-      chosen = record {
-        credited = λ test h. absurd (none_named test h);
-        rising = λ first second s u less e f. let one = least_of (length p.statements) first s e in let two = least_of (length p.statements) second u f in absurd (omega arith);
-        earlier = λ number test least statement v e f low good g. absurd (numbered_none test number e);
-        opening = λ statement v e other good. let named = numbered-replicate (length p.statements) statement (verdict.Covered 1) v e in absurd (omega arith);
-      };
-      hold = λ number u e. absurd (numbered_none u number e);
-      tight = λ number u e. absurd (numbered_none u number e);
-      lawful = record {
-        statements = λ statement v e. let named = numbered-replicate (length p.statements) statement (verdict.Covered 1) v e in absurd (omega arith);
-        within = λ statement. omega arith;
-        nibbles = λ number test e undecided. absurd (numbered_none test number e);
-      };
-    }
-
-pub none_decided : (p : Program) (b : Bounds) → IsUndecided (found p b []) → ⊥
-none_decided p b (inl statement) = covered_not_undecided (length p.statements) statement
-none_decided p b (inr nibble) = numbered_none nibble.1 nibble.0 nibble.2
 
 -- the same, with the verdicts and tests by equations
 pub decided_right : (p : Program) (b : Bounds) (t : Test) (count : ℕ) (verdicts : List Verdict) (tests : List Test) → count ≡ length p.statements → verdicts ≡ all_covered count → tests ≡ t ∷ []

@@ -43,11 +43,6 @@ assignment_at text number end rest value e h f = record {
       ∙ sym (append_assoc assign_text (decimal value ++ end_text) rest);
 }
 
--- a text that is no drop and no assignment begins with no line
-pub no_line-no_front : (text : List ℕ) → ((rest : List ℕ) → text ≢ drop_text ++ rest) → ((rest : List ℕ) → text ≢ assign_text ++ rest) → IsNoLine text
-no_line-no_front text drop assign (AssignEgressSpec value) rest h = assign ((decimal value ++ end_text) ++ rest) (h.whole ∙ append_assoc assign_text (decimal value ++ end_text) rest)
-no_line-no_front text drop assign MarkToDrop rest h = drop rest h.whole
-
 pub no_line-no_number : (text number : List ℕ) → ((rest : List ℕ) → text ≢ drop_text ++ rest) → text ≡ assign_text ++ number → IsNoNumber number → IsNoLine text
 no_line-no_number text number drop e none (AssignEgressSpec value) rest h = none value (end_text ++ rest) (number_of_line text number rest value e h)
 no_line-no_number text number drop e none MarkToDrop rest h = drop rest h.whole

@@ -1,21 +1,9 @@
 -- Lemmas on reading a file in pieces.
-use Rattle.std.proofs.Common.{◌≡◌, ℕ, ◌≤◌, List, [], ◌∷◌, ◌++◌, Option, None, Some, length, take, refl, ap, sym, ◌∙◌, subst, append_assoc, arith, append-nil, Result, Ok, Err, IfOk}
+use Rattle.std.proofs.Common.{◌≡◌, ℕ, ◌≤◌, List, [], ◌∷◌, ◌++◌, Option, None, Some, length, take, refl, ap, sym, ◌∙◌, subst, arith, append-nil, Result, Ok, Err, IfOk}
 use Rattle.std.proofs.lemmas.List.{take_all, take-append-le}
 use Rattle.tg_base.specs.Content.{OpensAtStart}
 use Rattle.testgen_engine.specs.Endings.{HasFile}
 use Rattle.testgen_engine.specs.Source.{MovesOn, AtEnd, IsFront}
-
--- nothing is read yet
-pub moves_none : (rest : Option (List ℕ)) → MovesOn rest [] rest []
-moves_none None = tt
-moves_none (Some rest) = ([], rest, refl, refl, refl)
-
--- one piece after another
-pub moves_more : (first second third : Option (List ℕ)) (a b : List ℕ) → MovesOn first [] second a → MovesOn second a third b → MovesOn first [] third b
-moves_more None second third a b h k = tt
-moves_more (Some rest) None third a b h k = let e = h.3 in cc
-moves_more (Some rest) (Some left) third a b h k =
-    (h.0 ++ k.0, k.1, h.2 ∙ ap (λ ys. h.0 ++ ys) (sym (let e : Some left ≡ Some h.1 = h.3 in let f : left ≡ h.1 = cc in f) ∙ k.2) ∙ sym (append_assoc h.0 k.0 k.1), k.3, k.4 ∙ ap (λ ys. ys ++ k.0) h.4)
 
 -- no list but the empty one is a front of the empty list
 append_is_nil : (xs ys : List ℕ) → xs ++ ys ≡ [] → xs ≡ []

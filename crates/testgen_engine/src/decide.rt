@@ -1,6 +1,6 @@
 //! Tests and verdicts of a program that is built: each of its inputs has one run, which runs every
 //! statement, so the opening input is a test for all of them.
-ghost use Rattle.std.specs.Prelude.{◌≡◌, ◌<◌, ◌≤◌, [], ◌∷◌, IfOk, IsTrue, length, map, replicate, min};
+ghost use Rattle.std.specs.Prelude.{◌≡◌, ◌<◌, ◌≤◌, IfOk, IsTrue, length, map, replicate, min};
 ghost use Rattle.p4_meaning.specs.declared.test.Nibble.TheVariants.{Fixed};
 ghost use Rattle.p4_meaning.specs.declared.verdict.Verdict.TheVariants.{Covered};
 ghost use Rattle.p4_meaning.specs.Expected.{digits_of, is_printable};

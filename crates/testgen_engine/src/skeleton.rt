@@ -1,11 +1,10 @@
 //! The program of a source that is built: the skeleton with statements of two forms.
-ghost use Rattle.std.specs.Prelude.{◌≡◌, ◌≢◌, ◌+◌, ◌*◌, ◌^◌, ◌≤◌, ◌<◌, ℕ, List, ◌++◌, length, take_while, IfOk, IfSome, IsTrue, ◌↔◌, MatchOption};
+ghost use Rattle.std.specs.Prelude.{◌≡◌, ◌≢◌, ◌+◌, ◌*◌, ◌≤◌, ◌<◌, ℕ, List, ◌++◌, length, take_while, IfOk, IfSome, IsTrue, ◌↔◌, MatchOption};
 ghost use Rattle.std.specs.Char.{is_ascii_digit};
-ghost use Rattle.std.specs.Fmt.{decimal};
-ghost use Rattle.std.specs.List.{AllByRecursion, take_while, list_all, prefix_len};
+ghost use Rattle.std.specs.List.{take_while, prefix_len};
 ghost use Rattle.std.specs.Str.Parse.{digits_value, AllDigits};
-ghost use Rattle.testgen_engine.specs.Skeleton.{head_text, tail_text, assign_text, drop_text, end_text, line_text, FitsNineBits, placed_from, StandsFor, IsNotBuilt};
-ghost use Rattle.testgen_engine.specs.Lines.{StartsNoDigit, IsPlain, IsNumberAt, IsNoNumber, IsLineAt, IsNoLine, IsBody, IsNoBody};
+ghost use Rattle.testgen_engine.specs.Skeleton.{head_text, tail_text, assign_text, drop_text, end_text, placed_from, StandsFor, IsNotBuilt};
+ghost use Rattle.testgen_engine.specs.Lines.{IsPlain, IsNumberAt, IsNoNumber, IsLineAt, IsNoLine, IsBody, IsNoBody};
 
 use p4_program::{EgressSpec, Program, Statement, StatementKind};
 use sqlite_items::Items;

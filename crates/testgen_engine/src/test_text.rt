@@ -1,6 +1,5 @@
 //! The text of a test, one spelling for each test.
 ghost use Rattle.std.specs.Prelude.{◌≡◌, ◌∷◌, [], ◌++◌, OnOk, IfOk, IsTrue, string_bytes};
-ghost use Rattle.std.specs.List.{flat_map, list_all};
 ghost use Rattle.p4_meaning.specs.Expected.{is_digit, is_printable};
 ghost use Rattle.testgen_engine.specs.TestText.{title_line, packet_line, glyph_of, expect_line, test_text};
 

@@ -1,5 +1,5 @@
 //! Which job the words of the command line ask for.
-ghost use Rattle.std.specs.Prelude.{◌≡◌, ◌↔◌, IsTrue, MatchOption, map, string_bytes};
+ghost use Rattle.std.specs.Prelude.{◌↔◌, IsTrue, MatchOption, map, string_bytes};
 ghost use Rattle.testgen_engine.specs.Words.{IsName, AsksGen, AsksNothing};
 
 /// Whether a word can name a file.

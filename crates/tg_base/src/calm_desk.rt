@@ -1,5 +1,5 @@
 //! A desk in memory at which no call fails.
-ghost use Rattle.std.specs.Prelude.{◌≡◌, ◌≢◌, [], ◌∷◌, ◌++◌, ◌||◌, ◌<◌, Some, length, min, is_ok, nat_lt, false, true, IsTrue, IsOk, OnOk, OnErr, IfOk, if◌then◌else◌};
+ghost use Rattle.std.specs.Prelude.{◌≡◌, ◌≢◌, [], ◌∷◌, ◌++◌, ◌||◌, ◌<◌, Some, length, min, is_ok, nat_lt, false, IsTrue, IsOk, OnOk, OnErr, IfOk, if◌then◌else◌};
 ghost use Rattle.std.specs.String.{string_bytes};
 ghost use Rattle.tg_base.specs.CalmDesk.{source_or_test, files_of, rest_of, is_readable, asked_of, written_to};
 ghost use Rattle.tg_base.specs.Content.{Moves};

@@ -1,5 +1,5 @@
 //! The outside: the trait through which the generator reads sources and writes its outputs.
-ghost use Rattle.std.specs.Prelude.{◌≡◌, ◌≢◌, ◌↔◌, ℕ, Bool, List, [], ◌∷◌, ◌++◌, ◌||◌, ◌<◌, ◌≤◌, Option, length, take, is_ok, nat_lt, false, IsTrue, OnOk, OnErr, IfOk, IfSome, IsErrOf, MatchResult, if◌then◌else◌};
+ghost use Rattle.std.specs.Prelude.{◌≡◌, ◌≢◌, ℕ, Bool, List, [], ◌||◌, ◌<◌, ◌≤◌, Option, length, take, is_ok, nat_lt, false, IsTrue, OnOk, OnErr, IfOk, IfSome, IsErrOf, MatchResult, if◌then◌else◌};
 ghost use Rattle.tg_base.specs.Faults.{Rose};
 ghost use Rattle.tg_base.specs.Content.{OpensAtStart, Moves, with_name, with_piece, wants_memory};
 ghost use Rattle.tg_base.specs.declared.desk.DeskFault.TheVariants.{Memory};

@@ -1,1 +1,2 @@
 pub mod ExtendsLemmas
+pub mod Told

@@ -5,7 +5,8 @@ use Rattle.bits_core.specs.declared.number.Bits.{Bits}
 use Rattle.bits_core.specs.Number.{slice_value, extend_value}
 use Rattle.bits_core.specs.Operator.{operator_value}
 use Rattle.value_domain.proofs.ExtendsLemmas.{Extends-refl}
-use Rattle.concrete_domain.proofs.Told.{from_ok, at_one, at_two, some-injective, chosen_width, chosen_value}
+use Rattle.value_domain.proofs.Told.{from_ok}
+use Rattle.concrete_domain.proofs.Told.{at_one, at_two, some-injective, chosen_width, chosen_value}
 use Rattle.concrete_domain.proofs.concrete_domain.ConcreteDomainDomain.TheImpl.Goals as goal
 
 pub binary-tells : goal.binary-tells

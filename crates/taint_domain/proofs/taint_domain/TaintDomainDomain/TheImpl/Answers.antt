@@ -2,7 +2,7 @@
 use Rattle.std.proofs.Common.{refl}
 use Rattle.value_domain.proofs.ExtendsLemmas.{Extends-refl}
 use Rattle.taint_domain.proofs.Stands.{unspecified_stands, binary_stands, unary_stands, slice_stands, extend_stands, choice_width, choice_stands, comparison_may_be}
-use Rattle.taint_domain.proofs.Told.{from_ok, both_ok}
+use Rattle.value_domain.proofs.Told.{from_ok, both_ok}
 use Rattle.taint_domain.proofs.taint_domain.TaintDomainDomain.TheImpl.Goals as goal
 
 pub unspecified-tells : goal.unspecified-tells
