@@ -1,5 +1,5 @@
 -- Lemmas on how a call may end.
-use Rattle.std.proofs.Common.{◌≡◌, ℕ, ◌*◌, ◌≤◌, List, [], ◌∷◌, ◌++◌, Option, None, Some, Result, Ok, Err, IfOk, length, take, inl, inr, refl, ap, sym, ◌∙◌, subst, arith, length-append, length-take}
+use Rattle.std.proofs.Common.{◌≡◌, ℕ, ◌*◌, ◌<◌, ◌≤◌, List, [], ◌∷◌, ◌++◌, Option, None, Some, Result, Ok, Err, IfOk, length, take, inl, inr, refl, ap, sym, ◌∙◌, subst, arith, length-append, length-take}
 use Rattle.std.proofs.lemmas.Fmt.{length-decimal-le}
 use Rattle.std.proofs.lemmas.List.{take_all}
 use Rattle.std.specs.Fmt.{decimal}
@@ -58,6 +58,11 @@ built_short bytes p s =
     let lines = lines_short s.kinds s.fit in
     let few = s.few in
     omega (arith, ap length s.text, length-append head_text (flat_map line_text s.kinds ++ tail_text), length-append (flat_map line_text s.kinds) tail_text, frame_short)
+
+-- a source that was built is shorter than what may be taken
+pub short_done : {S E : Type 0} (r : Result S E) (P : S → Type 0) (source : List ℕ) (p : Program) → StandsFor source p → IfOk r (λ s. P s → length source < 262145)
+short_done (Ok s) P source p stands = λ done. omega (arith, built_short source p stands)
+short_done (Err e) P source p stands = tt
 
 -- so what is taken of a file tells whether it is one
 pub refused_whole : (source whole : List ℕ) → source ≡ take 262145 whole → IsNotBuilt source → IsNotBuilt whole

@@ -1,12 +1,13 @@
 //! The job of `gen`: from the name of a source to what is written. A read that fails is told;
 //! `Failed` says here that a write failed.
-ghost use Rattle.std.specs.Prelude.{◌≡◌, ℕ, List, [], ◌∷◌, Option, take, IfOk, map, string_bytes};
+ghost use Rattle.std.specs.Prelude.{◌≡◌, ◌<◌, ℕ, List, [], ◌∷◌, Option, length, take, IfOk, map, string_bytes};
 ghost use Rattle.tg_base.specs.declared.desk.Out.TheVariants as out;
 ghost use Rattle.tg_base.specs.Faults.{HasCause};
 ghost use Rattle.testgen_engine.specs.Endings.{HasFile, AsksFront, IsFound, not_built};
 ghost use Rattle.testgen_engine.specs.Keeps.{KeepsReading};
 ghost use Rattle.testgen_engine.specs.Notes.{usage_note, read_fault_note, refusal_note};
 ghost use Rattle.testgen_engine.specs.Outputs.{Writes, WritesText, only};
+ghost use Rattle.testgen_engine.specs.Source.{TakesAtMost, IsReadWhole};
 ghost use Rattle.testgen_engine.specs.Status.{status_of, Ended};
 ghost use Rattle.testgen_engine.specs.Words.{AsksGen, AsksNothing};
 
@@ -71,7 +72,8 @@ fn refuse<D: Desk>(alloc: Global, desk: &mut D) -> Result<Status, DeskFault>
     ensures writes { Writes (D.written desk.old) (D.written desk.new)
         (only out.Notes (refusal_note not_built)) result }
     ensures cause { HasCause (D.write_faults desk.old) (D.write_faults desk.new) result }
-    ensures stays { KeepsReading D.files D.asked D.read_faults desk.old desk.new }
+    ensures stays { KeepsReading D.files D.rest D.readable D.asked D.read_faults
+        desk.old desk.new }
 {
     let refusal = Refusal {
         code: Code::NotBuilt,
@@ -89,7 +91,8 @@ fn finish<D: Desk>(alloc: Global, desk: &mut D, program: &Program) -> Result<Sta
     ensures writes { WritesText (D.written desk.old) (D.written desk.new)
         (IsFound program.now) result }
     ensures cause { HasCause (D.write_faults desk.old) (D.write_faults desk.new) result }
-    ensures stays { KeepsReading D.files D.asked D.read_faults desk.old desk.new }
+    ensures stays { KeepsReading D.files D.rest D.readable D.asked D.read_faults
+        desk.old desk.new }
 {
     let bounds = Bounds::default();
     let decided = decide(alloc, bounds, program)?;
@@ -103,8 +106,10 @@ fn answer<D: Desk>(alloc: Global, desk: &mut D, source: &[u8]) -> Result<Status,
         (name whole : List ℕ) (before now : ℕ)
         → AsksGen words name → HasFile files name whole → source.now ≡ take 262145 whole
         → Ended files words before now (D.written desk.old) (D.written desk.new) result }
+    ensures short { IfOk result (λ status. status ≡ Status.Done → length source.now < 262145) }
     ensures cause { HasCause (D.write_faults desk.old) (D.write_faults desk.new) result }
-    ensures stays { KeepsReading D.files D.asked D.read_faults desk.old desk.new }
+    ensures stays { KeepsReading D.files D.rest D.readable D.asked D.read_faults
+        desk.old desk.new }
 {
     match program_of(alloc, source)? {
         Some(program) => finish(alloc, desk, &program),
@@ -118,7 +123,8 @@ fn tell_fault<D: Desk>(desk: &mut D) -> Result<Status, DeskFault>
     ensures writes { Writes (D.written desk.old) (D.written desk.new)
         (only out.Notes read_fault_note) result }
     ensures cause { HasCause (D.write_faults desk.old) (D.write_faults desk.new) result }
-    ensures stays { KeepsReading D.files D.asked D.read_faults desk.old desk.new }
+    ensures stays { KeepsReading D.files D.rest D.readable D.asked D.read_faults
+        desk.old desk.new }
 {
     write_all(desk, Out::Notes, b"read fault\n")?;
     Ok(Status::ReadFault)
@@ -130,7 +136,8 @@ fn tell_usage<D: Desk>(desk: &mut D) -> Result<Status, DeskFault>
     ensures writes { Writes (D.written desk.old) (D.written desk.new)
         (only out.Notes usage_note) result }
     ensures cause { HasCause (D.write_faults desk.old) (D.write_faults desk.new) result }
-    ensures stays { KeepsReading D.files D.asked D.read_faults desk.old desk.new }
+    ensures stays { KeepsReading D.files D.rest D.readable D.asked D.read_faults
+        desk.old desk.new }
 {
     write_all(
         desk,
@@ -146,6 +153,10 @@ fn generate_from<D: Desk>(alloc: Global, name: &str, desk: &mut D) -> Result<Sta
         → Ended (D.files desk.old) words (D.read_faults desk.old) (D.read_faults desk.new)
         (D.written desk.old) (D.written desk.new) result }
     ensures asked { AsksFront (D.asked desk.old) (D.asked desk.new) (name.now ∷ []) }
+    ensures whole { IfOk result (λ status. status ≡ Status.Done
+        → IsReadWhole (D.files desk.old) (D.rest desk.new) (D.readable desk.new)) }
+    ensures taken { TakesAtMost 262145 (D.files desk.old) name.now
+        (D.rest desk.old) (D.rest desk.new) }
     ensures cause { HasCause (D.write_faults desk.old) (D.write_faults desk.new) result }
     ensures files_stay { D.files desk.new ≡ D.files desk.old }
 {
@@ -165,6 +176,12 @@ pub fn run<D: Desk>(alloc: Global, words: &[String], desk: &mut D) -> Result<Sta
         → AsksFront (D.asked desk.old) (D.asked desk.new) (name ∷ []) }
     ensures nothing_asked { AsksNothing (map string_bytes words.now)
         → D.asked desk.new ≡ D.asked desk.old }
+    ensures whole { IfOk result (λ status. status ≡ Status.Done
+        → IsReadWhole (D.files desk.old) (D.rest desk.new) (D.readable desk.new)) }
+    ensures taken { (name : List ℕ) → AsksGen (map string_bytes words.now) name
+        → TakesAtMost 262145 (D.files desk.old) name (D.rest desk.old) (D.rest desk.new) }
+    ensures nothing_taken { AsksNothing (map string_bytes words.now)
+        → D.rest desk.new ≡ D.rest desk.old }
     ensures cause { HasCause (D.write_faults desk.old) (D.write_faults desk.new) result }
     ensures files_stay { D.files desk.new ≡ D.files desk.old }
 {

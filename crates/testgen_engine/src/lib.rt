@@ -29,6 +29,7 @@ ghost use Rattle.std.specs.Prelude.{◌≡◌, ◌≤◌, ◌⊎◌, ℕ, List, 
 ghost use Rattle.tg_base.specs.Faults.{Rose};
 ghost use Rattle.testgen_engine.specs.Endings.{Finishes, Misspells, Refuses, FailsToRead, IsCutShort, AsksFront, Completes, RefusesWhole};
 ghost use Rattle.testgen_engine.specs.Outputs.{AddsText};
+ghost use Rattle.testgen_engine.specs.Source.{IsReadWhole, TakesAtMost};
 ghost use Rattle.testgen_engine.specs.Words.{AsksGen, AsksNothing};
 
 use generate::{Status, run};
@@ -75,6 +76,14 @@ pub fn testgen<D: Desk>(alloc: Global, words: &[String], desk: &mut D) -> u8
     ensures cut_short { 5 ≤ result
         → IsCutShort (D.files desk.old) (map string_bytes words.now)
         (D.read_faults desk.old) (D.read_faults desk.new) (D.written desk.old) (D.written desk.new) }
+
+    // What is finished was read to its end, and at most 262,145 bytes are taken of any source.
+    ensures read_whole { (result ≡ 0) ⊎ (result ≡ 3)
+        → IsReadWhole (D.files desk.old) (D.rest desk.new) (D.readable desk.new) }
+    ensures taken { (name : List ℕ) → AsksGen (map string_bytes words.now) name
+        → TakesAtMost 262145 (D.files desk.old) name (D.rest desk.old) (D.rest desk.new) }
+    ensures nothing_taken { AsksNothing (map string_bytes words.now)
+        → D.rest desk.new ≡ D.rest desk.old }
 
     // No other name is asked for.
     ensures asked { (name : List ℕ) → AsksGen (map string_bytes words.now) name

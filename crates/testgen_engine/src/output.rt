@@ -9,7 +9,8 @@ use tg_base::{Desk, DeskFault, Out};
 pub fn write_all<D: Desk>(desk: &mut D, out: Out, text: &[u8]) -> Result<(), DeskFault>
     ensures writes { Writes (D.written desk.old) (D.written desk.new) (only out text.now) result }
     ensures cause { HasCause (D.write_faults desk.old) (D.write_faults desk.new) result }
-    ensures stays { KeepsReading D.files D.asked D.read_faults desk.old desk.new }
+    ensures stays { KeepsReading D.files D.rest D.readable D.asked D.read_faults
+        desk.old desk.new }
 {
     let mut rest = text;
     while !rest.is_empty() {

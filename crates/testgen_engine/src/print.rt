@@ -47,7 +47,8 @@ fn print_test<D: Desk>(
     ensures writes { Writes (D.written desk.old) (D.written desk.new)
         (only (out.Test number) (test_text number (credits verdicts.now number) test.now)) result }
     ensures cause { HasCause (D.write_faults desk.old) (D.write_faults desk.new) result }
-    ensures stays { KeepsReading D.files D.asked D.read_faults desk.old desk.new }
+    ensures stays { KeepsReading D.files D.rest D.readable D.asked D.read_faults
+        desk.old desk.new }
 {
     let statements = credits_of(alloc, verdicts, number)?;
     let text = write_test(alloc, number, statements.as_slice(), test)?;
@@ -66,7 +67,8 @@ fn print_tests<D: Desk>(
     ensures writes { Writes (D.written desk.old) (D.written desk.new)
         (tests_text verdicts.now 1 tests.now) result }
     ensures cause { HasCause (D.write_faults desk.old) (D.write_faults desk.new) result }
-    ensures stays { KeepsReading D.files D.asked D.read_faults desk.old desk.new }
+    ensures stays { KeepsReading D.files D.rest D.readable D.asked D.read_faults
+        desk.old desk.new }
 {
     for (index, test) in tests.iter().enumerate() {
         print_test(alloc, desk, index as u32 + 1, verdicts, test)?;
@@ -88,7 +90,8 @@ pub fn print<D: Desk>(
     ensures writes { Writes (D.written desk.old) (D.written desk.new)
         (text_of (findings bounds program.now decided.now)) result }
     ensures cause { HasCause (D.write_faults desk.old) (D.write_faults desk.new) result }
-    ensures stays { KeepsReading D.files D.asked D.read_faults desk.old desk.new }
+    ensures stays { KeepsReading D.files D.rest D.readable D.asked D.read_faults
+        desk.old desk.new }
 {
     let verdicts = decided.verdicts.as_slice();
     let tests = decided.tests.as_slice();

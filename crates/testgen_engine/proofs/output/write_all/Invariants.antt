@@ -9,7 +9,7 @@ invariant-loop-rest g l =
     record {
       front : (front : List ℕ) × (l.text ≡ front ++ l.rest) × Adds (desk.written l.initial.desk) (desk.written l.desk) (only l.out front);
       count : desk.write_faults l.initial.desk ≤ desk.write_faults l.desk;
-      stays : KeepsReading desk.files desk.asked desk.read_faults l.initial.desk l.desk;
+      stays : KeepsReading desk.files desk.rest desk.readable desk.asked desk.read_faults l.initial.desk l.desk;
     }
 
 abbrev pub decreases-loop-rest : goal.decreases-loop-rest
