@@ -25,17 +25,21 @@ pub record Holds (p : Program) (b : Bounds) (t : Test) : Type 0 where
   pub bounded : Bounded p b t.input
   pub each : (o : Outcome) (marks : List ℕ) → Run p b t.input o marks → Agrees t.expected o
 
--- two runs of the input send packets that differ at this nibble
+-- some run of the input sends a packet with this digit at this nibble
+pub record Sends (p : Program) (b : Bounds) (x : Input) (nibble digit : ℕ) : Type 0 where
+  pub port : ℕ
+  pub bytes : List ℕ
+  pub marks : List ℕ
+  pub run : Run p b x (outcome.Sent port bytes) marks
+  pub has : slice_get (digits_of bytes) nibble ≡ Some digit
+
+-- two runs of the input send packets with different digits at this nibble
 pub record Differs (p : Program) (b : Bounds) (x : Input) (nibble : ℕ) : Type 0 where
-  pub first_port : ℕ
-  pub first_bytes : List ℕ
-  pub first_marks : List ℕ
-  pub first_run : Run p b x (outcome.Sent first_port first_bytes) first_marks
-  pub second_port : ℕ
-  pub second_bytes : List ℕ
-  pub second_marks : List ℕ
-  pub second_run : Run p b x (outcome.Sent second_port second_bytes) second_marks
-  pub differ : slice_get (digits_of first_bytes) nibble ≢ slice_get (digits_of second_bytes) nibble
+  pub first : ℕ
+  pub first_sent : Sends p b x nibble first
+  pub second : ℕ
+  pub second_sent : Sends p b x nibble second
+  pub differ : first ≢ second
 
 -- at each masked nibble of what is expected, two runs of the input differ
 abbrev pub TightFor : Program → Bounds → Input → Expected → Type 0

@@ -34,9 +34,9 @@ statement_lines number (statement ∷ statements) [] = []
 statement_lines number (statement ∷ statements) (verdict ∷ verdicts) =
     statement_line number statement.place verdict ++ statement_lines (suc number) statements verdicts
 
-abbrev pub is_undecided : Nibble → Bool
-is_undecided nibble.Undecided = true
-is_undecided _ = false
+abbrev pub is_undecided_nibble : Nibble → Bool
+is_undecided_nibble nibble.Undecided = true
+is_undecided_nibble _ = false
 
 -- `test T nibble I undecided`
 abbrev pub nibble_line : ℕ → ℕ → List ℕ
@@ -46,7 +46,7 @@ nibble_line test place = concat (codes "test " ∷ decimal test ∷ codes " nibb
 abbrev pub nibble_lines : ℕ → ℕ → List Nibble → List ℕ
 nibble_lines test place [] = []
 nibble_lines test place (n ∷ nibbles) =
-    (if is_undecided n then nibble_line test place else []) ++ nibble_lines test (suc place) nibbles
+    (if is_undecided_nibble n then nibble_line test place else []) ++ nibble_lines test (suc place) nibbles
 
 -- what is expected of the nibbles of a packet, and nothing where none is expected
 abbrev pub nibbles_of : Expected → List Nibble
@@ -61,7 +61,7 @@ undecided_lines number (test ∷ tests) = nibble_lines number 0 (nibbles_of test
 -- how many nibbles of the tests are undecided
 abbrev pub undecided_nibbles : List Test → ℕ
 undecided_nibbles [] = 0
-undecided_nibbles (test ∷ tests) = count_by is_undecided (nibbles_of test.expected) + undecided_nibbles tests
+undecided_nibbles (test ∷ tests) = count_by is_undecided_nibble (nibbles_of test.expected) + undecided_nibbles tests
 
 abbrev pub is_covered : Verdict → Bool
 is_covered (Covered test) = true
@@ -75,9 +75,9 @@ abbrev pub is_unsteady : Verdict → Bool
 is_unsteady Unsteady = true
 is_unsteady _ = false
 
-abbrev pub is_unsearched : Verdict → Bool
-is_unsearched Undecided = true
-is_unsearched _ = false
+abbrev pub is_undecided : Verdict → Bool
+is_undecided Undecided = true
+is_undecided _ = false
 
 -- what the last line counts
 abbrev pub counts_of : List Verdict → List Test → Counts
@@ -86,7 +86,7 @@ counts_of verdicts tests = record {
   covered = count_by is_covered verdicts;
   unreachable = count_by is_unreachable verdicts;
   unsteady = count_by is_unsteady verdicts;
-  undecided = count_by is_unsearched verdicts;
+  undecided = count_by is_undecided verdicts;
   tests = length tests;
   nibbles = undecided_nibbles tests;
 }

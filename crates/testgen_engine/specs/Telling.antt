@@ -11,7 +11,7 @@ use Rattle.p4_meaning.specs.declared.verdict.Verdict.{Verdict}
 use Rattle.p4_meaning.specs.declared.verdict.Verdict.TheVariants.{Covered, Unreachable, Unsteady, Undecided}
 use Rattle.tg_base.specs.declared.place.Span.{Span}
 use Rattle.testgen_engine.specs.Findings.{Findings}
-use Rattle.testgen_engine.specs.Report.{is_undecided, nibbles_of}
+use Rattle.testgen_engine.specs.Report.{is_undecided_nibble, nibbles_of}
 
 -- the place of a statement
 abbrev pub place_of : Statement → Span
@@ -47,7 +47,7 @@ pub record FindingsFit (f : Findings) : Type 0 where
 abbrev pub undecided_from : ℕ → List Nibble → List ℕ
 undecided_from place [] = []
 undecided_from place (n ∷ nibbles) =
-    if is_undecided n then place ∷ undecided_from (suc place) nibbles else undecided_from (suc place) nibbles
+    if is_undecided_nibble n then place ∷ undecided_from (suc place) nibbles else undecided_from (suc place) nibbles
 
 -- the places of a test's undecided nibbles
 abbrev pub undecided_places : Test → List ℕ

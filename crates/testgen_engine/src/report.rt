@@ -1,7 +1,7 @@
 //! The report: the bounds, a line for each statement, a line for each undecided nibble, and the
 //! counts.
 ghost use Rattle.std.specs.Prelude.{◌≡◌, ◌++◌, OnOk, IfOk, length, count_by, string_bytes};
-ghost use Rattle.testgen_engine.specs.Report.{bounds_line, statement_line, statement_lines, is_undecided, nibble_line, nibble_lines, nibbles_of, undecided_lines, undecided_nibbles, is_covered, is_unreachable, is_unsteady, is_unsearched, counts_of, verdict_counts, test_counts, counts_line, report_text};
+ghost use Rattle.testgen_engine.specs.Report.{bounds_line, statement_line, statement_lines, is_undecided_nibble, nibble_line, nibble_lines, nibbles_of, undecided_lines, undecided_nibbles, is_covered, is_unreachable, is_unsteady, is_undecided, counts_of, verdict_counts, test_counts, counts_line, report_text};
 
 use p4_meaning::{Expected, Nibble, Test, Verdict};
 use p4_program::{Bounds, Program, Statement};
@@ -78,7 +78,7 @@ fn push_statements(
 fn push_nibbles(text: &mut String, test: usize, nibbles: &[Nibble]) -> Result<usize, AllocError>
     ensures lines { OnOk result
         (string_bytes text.new ≡ string_bytes text.old ++ nibble_lines test 0 nibbles.now) }
-    ensures count { IfOk result (λ count. count ≡ count_by is_undecided nibbles.now) }
+    ensures count { IfOk result (λ count. count ≡ count_by is_undecided_nibble nibbles.now) }
 {
     let mut count = 0;
     for (place, nibble) in nibbles.iter().enumerate() {
@@ -132,7 +132,7 @@ fn unsteady_count(verdicts: &[Verdict]) -> usize
 
 /// How many statements are undecided.
 fn undecided_count(verdicts: &[Verdict]) -> usize
-    ensures { result ≡ count_by is_unsearched verdicts.now }
+    ensures { result ≡ count_by is_undecided verdicts.now }
 {
     verdicts
         .iter()
