@@ -30,15 +30,15 @@ pub enum Op {
 /// What an operator takes and gives.
 #[derive(Clone, Copy, Debug, PartialEq, Eq, PartialOrd, Ord, Hash)]
 pub enum OpShape {
-    /// One operand, whose width is the result's.
+    /// The result is as wide as the one operand.
     One,
-    /// Two operands of one width, which is the result's.
+    /// The result and both operands are equally wide.
     Same,
-    /// Two operands of any widths, the first's being the result's.
+    /// The result is as wide as the first operand, and the second may have any width.
     Shift,
-    /// Two operands, whose widths add up to the result's.
+    /// The result is as wide as both operands together.
     Join,
-    /// Two operands of one width and a result of width 1.
+    /// The operands are equally wide, and the result has one bit.
     Test,
 }
 

@@ -1,5 +1,5 @@
--- What a finished parse has found, and what a stopped one shows. No symbol is barren, so whatever the stack still
--- holds after a token that was taken can be completed: this makes the place of a stop exact.
+-- What a finished parse has found, and what a stopped one shows. Each symbol derives some list, so the stack that is
+-- left once a token has matched derives one too. Hence the place of a stop is exact.
 use Rattle.std.proofs.Common.{◌≡◌, ℕ, ◌+◌, ◌<◌, ◌≤◌, true, false, List, [], ◌∷◌, ◌++◌, length, take, None, refl, sym, ap, ◌∙◌, subst, inl, inr, append_assoc, arith}
 use Rattle.std.proofs.lemmas.List.{append-nil, take_at, length-append}
 use Rattle.std.proofs.lemmas.Bool.{cases_Bool, false≢true}

@@ -17,8 +17,8 @@ pub record IsOther (g : List Row) (k : ℕ) (r : Row) (j : ℕ) (s : Row) : Type
 abbrev pub StandsOnlyFirstIn : List Row → ℕ → ℕ → Type 0
 StandsOnlyFirstIn g t k = (j : ℕ) (s : Row) (before after : List ℕ) → IsRow g j s → s.right ≡ before ++ t ∷ after → (j ≡ k) × (before ≡ [])
 
--- row k, which is r, may have a rank above 0: it begins with a token that stands once in the table, its symbol
--- has one other row, and that is the empty row with rank 0. So an `else` belongs to the nearest `if`
+-- row k, which is r, may have a rank above 0: its first symbol is a token that the table has nowhere else, and the one
+-- other row of its symbol is empty and has rank 0. With such a row an `else` goes with the `if` before it
 pub record MayRank (g : List Row) (k : ℕ) (r : Row) : Type 0 where
   pub token : ℕ
   pub rest : List ℕ

@@ -36,8 +36,8 @@ pub record CanGoOn (g : List Row) (tokens : List ℕ) : Type 0 where
   pub rest : List ℕ
   pub derives : Derives g (0 ∷ []) (tokens ++ rest)
 
--- `at` is the first token such that no derived list begins with the tokens up to it, or their number where each
--- such start can go on and the tokens themselves are not derived
+-- The tokens before the place can go on, and with the one at the place they cannot. At the end of the tokens: they can
+-- go on, and are not themselves derived.
 pub record StopsAt (g : List Row) (tokens : List ℕ) (place : ℕ) : Type 0 where
   pub within : place ≤ length tokens
   pub before : CanGoOn g (take place tokens)

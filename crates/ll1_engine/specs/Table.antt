@@ -7,7 +7,7 @@ use Rattle.ll1_engine.specs.declared.grammar.Row.{Row}
 abbrev pub IsRow : List Row → ℕ → Row → Type 0
 IsRow g k r = slice_get g k ≡ Some r
 
--- a symbol that is the left of no row
+-- a symbol for which there is no row
 abbrev pub IsToken : List Row → ℕ → Type 0
 IsToken g x = (k : ℕ) (r : Row) → IsRow g k r → r.left ≢ x
 

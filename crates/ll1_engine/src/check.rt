@@ -267,7 +267,7 @@ fn break_of(size: usize, rows: &[Row], seen: &Survey, k: usize) -> Option<Break>
     None
 }
 
-/// The first row that breaks a condition, with the first that it breaks.
+/// The first broken condition of the table, row by row.
 fn first_break(size: usize, rows: &[Row], seen: &Survey) -> Option<TableFault>
     requires below { AreBelow size rows.now }
     requires seen { IsSurvey size rows.now seen.now }

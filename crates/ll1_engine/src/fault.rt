@@ -6,11 +6,11 @@ use thiserror::Error;
 /// A condition that a row can break, in the order in which they are named.
 #[derive(Clone, Copy, Debug, PartialEq, Eq)]
 pub enum Break {
-    /// The left symbol derives no list of tokens.
+    /// From its left symbol no list of tokens can be derived.
     Barren,
     /// The row has a rank above 0 that it may not have.
     Rank,
-    /// The row and another row of its symbol derive the empty list.
+    /// Two rows of the symbol, this one among them, derive the empty list.
     Nullable,
     /// A token is in FIRST of the row and of another row of its symbol.
     First,
@@ -19,7 +19,7 @@ pub enum Break {
     Follow,
 }
 
-/// The first row that breaks a condition, and of its broken conditions the first.
+/// A row that breaks a condition, where no earlier row breaks any, and the first of those that it breaks.
 #[derive(Clone, Copy, Debug, PartialEq, Eq)]
 pub struct TableFault {
     pub row: usize,
@@ -35,7 +35,7 @@ pub enum CheckFault {
     Memory(AllocError),
 }
 
-/// The first token such that no derived list begins with the tokens up to it, or the number of tokens.
+/// Where a parse stops: behind the longest front of the tokens that some derived list begins with.
 #[derive(Clone, Copy, Debug, PartialEq, Eq)]
 pub struct Stop {
     pub at: usize,

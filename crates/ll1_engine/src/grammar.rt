@@ -9,10 +9,10 @@ use sqlite_items::Items;
 use std::alloc::{AllocError, Global};
 use std::marker::Model;
 
-/// A symbol's number. Symbol 0 is the start; a symbol that is the left of no row is a token.
+/// A symbol's number. The start symbol is 0.
 pub type Symbol = usize;
 
-/// A symbol that is the left of no row.
+/// A symbol for which there is no row.
 pub type Token = Symbol;
 
 /// A list of symbols.

@@ -44,7 +44,7 @@ pub(crate) struct Survey {
     pub(crate) sights: Sights,
 }
 
-/// The symbols that are the left of no row.
+/// The symbols for which there is no row.
 fn token_marks(alloc: Global, size: usize, rows: &[Row]) -> Result<Vec<bool>, AllocError>
     requires { AreBelow size rows.now }
     ensures size { IfOk result (λ marks. length marks.items ≡ size) }

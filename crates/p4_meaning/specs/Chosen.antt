@@ -1,4 +1,4 @@
--- How tests are chosen: statements are taken in order, and each test credits a statement that no earlier one does.
+-- Which lists of tests are the right choice: each test is there for a statement that no test before it covers.
 use Rattle.std.specs.Prelude.{◌≡◌, ◌≢◌, ℕ, ◌<◌, ◌≤◌, ◌⊎◌, List, Option, Some, IsSome, slice_get}
 use Rattle.p4_program.specs.declared.bounds.Bounds.{Bounds}
 use Rattle.p4_program.specs.declared.program.Program.{Program}

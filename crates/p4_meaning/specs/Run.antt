@@ -1,7 +1,7 @@
 -- Runs of a program on the switch (v1model.p4 and the simple_switch target of BMv2, "Packet processing"): the
 -- parser, the checksum check, ingress, the drop decision, egress, the checksum update and the deparser.
--- Only ingress has statements so far. The parser has the state `start` alone, which accepts: it raises no
--- error and takes no byte, and one state is within any bound on steps.
+-- Only ingress has statements so far. The parser accepts in `start`, its only state: it raises no error and takes no
+-- byte, and one state is within any bound on steps.
 use Rattle.std.specs.Prelude.{◌≡◌, ◌≢◌, ℕ, List, [], ◌∷◌, ◌⊎◌}
 use Prim.Native.Nat.{suc}
 use Rattle.p4_program.specs.declared.bounds.Bounds.{Bounds}
@@ -27,8 +27,8 @@ abbrev pub Executes : StatementKind → Metadata → Metadata → Type 0
 Executes (AssignEgressSpec value) old new = new ≡ record { egress_spec = value; mcast_grp = old.mcast_grp }
 Executes MarkToDrop old new = new ≡ record { egress_spec = 511; mcast_grp = 0 }
 
--- Statements run one after another, the first of them having this number. The marks are the numbers of the
--- statements that were begun, in the order in which they were begun.
+-- Statements run one after another, the first of them having this number. A mark is the number of a statement, set as
+-- the statement begins.
 abbrev pub ExecutesAll : ℕ → List Statement → Metadata → Metadata → List ℕ → Type 0
 ExecutesAll number [] old new marks = (new ≡ old) × (marks ≡ [])
 ExecutesAll number (s ∷ statements) old new marks =

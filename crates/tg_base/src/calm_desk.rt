@@ -20,7 +20,7 @@ pub struct CalmDesk {
 }
 
 impl CalmDesk {
-    /// The file of this name is the source, and the file of every other name is the test.
+    /// A desk on which the name leads to the source, and any other name to the test.
     pub fn new(alloc: Global, name: String, source: Vec<u8>, test: Vec<u8>) -> CalmDesk
         ensures files { ⟦<CalmDesk as Desk>⟧.files result
             ≡ Some (λ other. Some (source_or_test (string_bytes name) source.items test.items other)) }

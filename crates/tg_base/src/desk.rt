@@ -82,7 +82,7 @@ pub trait Desk {
         ensures written_stays { (out : Out) → written self.new out ≡ written self.old out }
         ensures write_faults_stay { write_faults self.new ≡ write_faults self.old };
 
-    /// Moves a prefix of what the open file has left into the slice, and answers its length.
+    /// Moves the next bytes of the open file to the front of the slice, and answers how many.
     fn read(&mut self, into: &mut [u8]) -> Result<usize, DeskFault>
         requires readable { IsTrue (readable self.old) }
         requires room { 0 < length into.old }
@@ -91,7 +91,7 @@ pub trait Desk {
             Moves rest_old count into.old into.new (rest self.new))) }
         // Nothing is moved only at the end.
         ensures at_end { IfOk result (λ count. count ≡ 0 → IfSome (rest self.old) (λ rest_old. rest_old ≡ [])) }
-        // After the end or a fault the desk is not readable.
+        // The end and any fault make the desk unreadable.
         ensures readable { MatchResult result (λ count. readable self.new ≡ nat_lt 0 count) (λ _. readable self.new ≡ false) }
         ensures cause { IsErrOf result DeskFault.Failed → Rose (read_faults self.old) (read_faults self.new) }
         ensures count { read_faults self.old ≤ read_faults self.new }
@@ -104,7 +104,7 @@ pub trait Desk {
         ensures written_stays { (out : Out) → written self.new out ≡ written self.old out }
         ensures write_faults_stay { write_faults self.new ≡ write_faults self.old };
 
-    /// Appends a prefix of the piece to an output, and answers its length. Where nothing is taken
+    /// Appends the first bytes of the piece to an output, and answers how many: at least one, or
     /// it fails.
     fn write(&mut self, out: Out, piece: &[u8]) -> Result<usize, DeskFault>
         requires { 0 < length piece.now }

@@ -24,7 +24,7 @@ pub struct MemDesk {
 }
 
 impl MemDesk {
-    /// Of files with one name the first counts.
+    /// A desk with these files. Where two have the same name, the later one is never read.
     pub fn new(
         alloc: Global,
         files: Vec<(String, Vec<u8>)>,

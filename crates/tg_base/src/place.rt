@@ -4,7 +4,7 @@ ghost use Rattle.tg_base.specs.Code.{number_of, name_of};
 
 use std::fmt;
 
-/// A place in a source. Lines and columns count from 1, and a column is a byte.
+/// A place in a source: a line, and a byte of it, both from 1.
 #[derive(Clone, Copy, Debug, PartialEq, Eq, PartialOrd, Ord, Hash)]
 pub struct Span {
     pub line: u32,
@@ -16,11 +16,11 @@ pub struct Span {
 pub enum Code {
     /// The bytes are not UTF-8.
     NotText,
-    /// No word of the language begins at a place, or a comment or string is not ended.
+    /// Some characters begin no word of the language, or a comment or a string goes on to the end.
     Lex,
     /// A line that begins with `#` is no directive of the profile, or a condition is not ended.
     Directive,
-    /// No tree of the grammar has these words.
+    /// The words are in no form that the grammar has.
     Syntax,
     /// Too many constructs are open around a word.
     TooDeep,
@@ -34,9 +34,9 @@ pub enum Code {
     Typing,
     /// A form of the language that the profile leaves out.
     Unsupported,
-    /// There is no one `main`, or its blocks do not match the switch.
+    /// `main` is missing or not the only one, or its blocks do not fit the switch.
     Package,
-    /// The source is outside what is built so far.
+    /// The generator does not build such a source yet.
     NotBuilt,
 }
 
