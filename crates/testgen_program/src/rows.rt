@@ -174,6 +174,21 @@ fn other_sources_are_refused(rt: HostRuntime) -> Result<(), Fail> {
     Ok(())
 }
 
+/// Of a long file 262,145 bytes are taken, by an open, 64 reads of 4,096 bytes and one of a single
+/// byte: the read past these is not made.
+#[test]
+fn long_files_are_read_in_part(rt: HostRuntime) -> Result<(), Fail> {
+    let alloc = rt.alloc();
+    for (failing_read, want, notes) in [(66, 4, "read fault\n"), (67, 2, NOT_BUILT)] {
+        let source = vec![in alloc; b' '; 300_000]?;
+        let mut desk = desk_of(alloc, source, failing_read, 0)?;
+        let status = status_of(alloc, "gen a.p4", &mut desk)?;
+        assert_eq!(rt; status, want, "read {failing_read}");
+        assert_notes(&rt, &desk, notes, "a long file");
+    }
+    Ok(())
+}
+
 #[test]
 fn other_words_are_wrong(rt: HostRuntime) -> Result<(), Fail> {
     let alloc = rt.alloc();
@@ -227,6 +242,9 @@ fn faults_end_a_run_early(rt: HostRuntime) -> Result<(), Fail> {
         assert_holds(&rt, &desk, Out::Report, report, "faults");
         let notes = if want == 4 { "read fault\n" } else { "" };
         assert_holds(&rt, &desk, Out::Notes, notes, "faults");
+        for out in [Out::Proofs, Out::Test(0), Out::Test(2)] {
+            assert_holds(&rt, &desk, out, "", "faults");
+        }
     }
     Ok(())
 }

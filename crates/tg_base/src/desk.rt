@@ -77,6 +77,7 @@ pub trait Desk {
         ensures count { read_faults self.old ≤ read_faults self.new }
 
         // What stays.
+        ensures faults_stay { result ≢ Err DeskFault.Failed → read_faults self.new ≡ read_faults self.old }
         ensures rest_stays { OnErr result (rest self.new ≡ rest self.old) }
         ensures files_stay { files self.new ≡ files self.old }
         ensures written_stays { (out : Out) → written self.new out ≡ written self.old out }
@@ -97,6 +98,7 @@ pub trait Desk {
         ensures count { read_faults self.old ≤ read_faults self.new }
 
         // What stays.
+        ensures faults_stay { result ≢ Err DeskFault.Failed → read_faults self.new ≡ read_faults self.old }
         ensures rest_stays { OnErr result (rest self.new ≡ rest self.old) }
         ensures into_stays { OnErr result (IfSome (rest self.old) (λ _. into.new ≡ into.old)) }
         ensures files_stay { files self.new ≡ files self.old }
@@ -114,6 +116,7 @@ pub trait Desk {
         ensures count { write_faults self.old ≤ write_faults self.new }
 
         // What stays.
+        ensures faults_stay { result ≢ Err DeskFault.Failed → write_faults self.new ≡ write_faults self.old }
         ensures out_stays { OnErr result (written self.new out ≡ written self.old out) }
         ensures others_stay { (other : Out) → other ≢ out → written self.new other ≡ written self.old other }
         ensures files_stay { files self.new ≡ files self.old }
