@@ -11,11 +11,12 @@ mod cube;
 mod decide;
 mod hints;
 mod index;
+mod look;
 mod plain;
 mod propagation;
-mod starts;
 #[cfg(test)]
 mod tests;
 mod variables;
+mod watches;
 
 pub use checker::{CheckFault, Checker};

@@ -43,7 +43,7 @@ fn visit(known: &ClauseDatabase, places: &[usize], row: &mut Assignment) -> bool
         let Some(clause) = clauses.get(*place) else {
             continue;
         };
-        match ClauseState::from_start(clause.as_slice(), *place, row) {
+        match ClauseState::from_watches(clause.as_slice(), *place, row) {
             ClauseState::Denied => return true,
             ClauseState::Unit(l) => row.set(l),
             ClauseState::Other => (),
