@@ -1,4 +1,5 @@
-// The assignment row: the truth of each variable, and the trail of the literals that were set.
+//! The assignment row: the truth of each variable, and the trail of the literals that were set.
+
 ghost use Rattle.std.specs.Prelude.{◌≡◌, ◌<◌, ◌≤◌, ◌++◌, ◌∷◌, [], Some, length, slice_get, IfOk};
 ghost use Rattle.refutation_checker.specs.Hints.{IsOpen};
 

@@ -1,5 +1,6 @@
-// Full unit propagation along the trail: a literal that is set has the clauses looked at that it makes
-// one literal shorter. The contract is that of the plain program.
+//! Full unit propagation along the trail: a literal that is set has the clauses looked at that it makes
+//! one literal shorter. The contract is that of the plain program.
+
 ghost use Rattle.std.specs.Prelude.{◌≡◌, ◌↔◌, IsTrue};
 ghost use Rattle.std.specs.Bool.{OnFalse};
 ghost use Rattle.cnf_core.specs.Propagation.{Conflicts};
