@@ -1,4 +1,5 @@
-// What a solver derives from a formula: cubes and steps, and the variables of a question.
+//! What a solver derives from a formula: cubes and steps, and the variables of a question.
+
 use super::{Clause, Lit};
 use sqlite_items::Items;
 

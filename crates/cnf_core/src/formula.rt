@@ -1,4 +1,5 @@
-// Literals, clauses and formulas, and the truth of a clause under a valuation.
+//! Literals, clauses and formulas, and the truth of a clause under a valuation.
+
 ghost use Rattle.std.specs.Prelude.{◌≡◌, ◌↔◌, IsTrue};
 ghost use Rattle.cnf_core.specs.Literal.{denial};
 ghost use Rattle.cnf_core.specs.Truth.{HasVariables, Satisfies};

@@ -1,5 +1,5 @@
-// Propositional formulas in conjunctive normal form: literals, clauses, valuations, and the cubes and
-// steps of a derivation. It solves and checks nothing; `refutation_checker` accepts derivations.
+//! Propositional formulas in conjunctive normal form: literals, clauses, valuations, and the cubes and
+//! steps of a derivation. It solves and checks nothing; `refutation_checker` accepts derivations.
 #![tactic(auto)]
 
 mod derivation;

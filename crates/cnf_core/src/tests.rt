@@ -1,4 +1,5 @@
-// A clause is true where one of its literals is.
+//! A clause is true where one of its literals is.
+
 use crate::{Clause, Lit, Valuation, holds};
 use sqlite_items::Items;
 use std::test::Fail;

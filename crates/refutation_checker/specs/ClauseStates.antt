@@ -1,5 +1,5 @@
 -- What a clause says under the literals that were set.
-use Rattle.std.specs.Prelude.{ℕ, List, All}
+use Rattle.std.specs.Prelude.{ℕ, ◌++◌, List, All, Contains}
 use Rattle.cnf_core.specs.declared.formula.Lit.{Lit}
 use Rattle.refutation_checker.specs.Hints.{IsFalse, IsUnit, IsNumbered}
 use Rattle.refutation_checker.specs.declared.clause_state.ClauseState.{ClauseState}
@@ -15,3 +15,11 @@ abbrev pub IsHintState : List (List Lit) → List Lit → ℕ → ClauseState �
 IsHintState clauses trail number Denied = (clause : List Lit) × IsNumbered clauses number clause × All (IsFalse trail) clause
 IsHintState clauses trail number (UnitOf l) = (clause : List Lit) × IsNumbered clauses number clause × IsUnit trail clause l
 IsHintState clauses trail number Other = (clause : List Lit) → IsNumbered clauses number clause → IsState trail clause Other
+
+-- a list of literals says this, and then with more of them that
+abbrev pub SaysWith : List Lit → ClauseState → List Lit → ClauseState → Type 0
+SaysWith trail before more after = (lits : List Lit) → IsState trail lits before → IsState trail (lits ++ more) after
+
+-- some literals of the clause say this
+abbrev pub SomeSay : List Lit → List Lit → ClauseState → Type 0
+SomeSay trail clause state = (part : List Lit) × All (Contains clause) part × IsState trail part state

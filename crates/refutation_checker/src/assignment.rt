@@ -1,8 +1,9 @@
-// The assignment row: the truth of each variable, and the trail of the literals that were set.
+//! The assignment row: the truth of each variable, and the trail of the literals that were set.
+
 ghost use Rattle.std.specs.Prelude.{◌≡◌, ◌<◌, ◌≤◌, ◌++◌, ◌∷◌, [], Some, length, slice_get, IfOk};
 ghost use Rattle.refutation_checker.specs.Hints.{IsOpen};
 
-use crate::starts::Starts;
+use crate::watches::{WatchTable, Watches};
 use cnf_core::Lit;
 use std::alloc::{AllocError, Global};
 use std::marker::Model;
@@ -26,13 +27,13 @@ impl From<bool> for Truth {
     }
 }
 
-/// A row of `width` variables with the literals set so far, in order, and where to start in each clause.
+/// A row of `width` variables with the literals set so far, in order, and the watches of each clause.
 /// Only `new` and `add_clause` take memory.
 #[derive(Drop)]
 pub struct Assignment {
     values: Vec<Truth>,
     trail: Vec<Lit>,
-    starts: Starts,
+    watches: WatchTable,
 }
 
 impl Model for Assignment {
@@ -57,7 +58,7 @@ impl Assignment {
         Ok(Assignment {
             values: vec![in alloc; Truth::Open; width]?,
             trail: Vec::with_capacity(alloc, width)?,
-            starts: Starts::new(alloc, clauses)?,
+            watches: WatchTable::new(alloc, clauses)?,
         })
     }
 
@@ -106,19 +107,19 @@ impl Assignment {
     pub fn add_clause(&mut self) -> Result<(), AllocError>
         ensures { self.new ≡ self.old }
     {
-        self.starts.add()
+        self.watches.add()
     }
 
-    /// Where the next look at the clause starts.
-    pub fn start(&self, clause: usize) -> usize {
-        self.starts.of(clause)
+    /// The watched places of the clause.
+    pub fn watches(&self, clause: usize) -> Watches {
+        self.watches.of(clause)
     }
 
-    pub fn set_start(&mut self, clause: usize, place: usize)
+    pub fn watch(&mut self, clause: usize, watches: Watches)
         ensures width { self.new.width ≡ self.old.width }
         ensures trail { self.new.trail ≡ self.old.trail }
     {
-        self.starts.set(clause, place);
+        self.watches.set(clause, watches);
     }
 
     /// Opens each variable.

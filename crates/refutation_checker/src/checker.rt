@@ -1,4 +1,5 @@
-// The checker: a formula with what was derived from it and accepted.
+//! The checker: a formula with what was derived from it and accepted.
+
 ghost use Rattle.std.specs.Prelude.{◌≡◌, ◌≢◌, ◌↔◌, [], Err, IsTrue, IfOk, OnOk, OnErr};
 ghost use Rattle.cnf_core.specs.Truth.{IsUnsatisfiable};
 ghost use Rattle.cnf_core.specs.declared.derivation.Derived.TheVariants.{Cube as CubeLine, Step as StepLine};

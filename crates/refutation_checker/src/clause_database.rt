@@ -1,4 +1,5 @@
-// The clauses that a checker knows, in the order of their numbers, and where each literal stands in them.
+//! The clauses that a checker knows, in the order of their numbers, and where each literal stands in them.
+
 ghost use Rattle.std.specs.Prelude.{◌≡◌, ◌<◌, ◌≤◌, ◌^◌, ℕ, [], All, IfOk, OnOk, OnErr};
 ghost use Rattle.refutation_checker.specs.Assigned.{IsWithin};
 ghost use Rattle.refutation_checker.specs.KnownClauses.{with_clause};

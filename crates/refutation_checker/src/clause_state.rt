@@ -1,9 +1,12 @@
-// What a clause says under an assignment: that it is false, that it sets one literal, or nothing.
-ghost use Rattle.std.specs.Prelude.{◌≡◌, IsSome};
-ghost use Rattle.refutation_checker.specs.Assigned.{IsWithin};
-ghost use Rattle.refutation_checker.specs.ClauseStates.{IsState};
+//! What a clause says under an assignment: that it is false, that it sets one literal, or nothing.
 
-use crate::assignment::{Assignment, Truth};
+ghost use Rattle.std.specs.Prelude.{◌≡◌};
+ghost use Rattle.refutation_checker.specs.Assigned.{IsWithin};
+ghost use Rattle.refutation_checker.specs.ClauseStates.{IsState, SomeSay};
+
+use crate::assignment::Assignment;
+use crate::look::Look;
+use crate::watches::Watches;
 use cnf_core::Lit;
 
 /// What a clause says under an assignment.
@@ -22,70 +25,44 @@ impl ClauseState {
         requires { IsWithin row.now.width clause.now }
         ensures { IsState row.now.trail clause.now result }
     {
-        let mut unit = None;
-        for l in clause {
-            match row.value(*l) {
-                Truth::False => (),
-                Truth::True => return ClauseState::Other,
-                Truth::Open => match unit {
-                    None => unit = Some(*l),
-                    Some(k) => {
-                        if k != *l {
-                            return ClauseState::Other;
-                        }
-                    }
-                },
-            }
-        }
-        match unit {
-            Some(l) => ClauseState::Unit(l),
-            None => ClauseState::Denied,
-        }
+        Look::whole(clause, row).state
     }
 
-    /// As `of`, but starts where the last look at the clause ended, and moves that place on: each of many
-    /// looks, between which the literals of a long clause become false, is not a scan of the whole clause.
-    pub fn from_start(clause: &[Lit], place: usize, row: &mut Assignment) -> ClauseState
+    /// As `of`, for the clause of a number, but first by its watches, which mostly show that it says nothing. Where
+    /// they do not, others are looked for from the later one to the end, and then once from the start. While literals
+    /// are only set, all looks at a clause of n literals so take time in n together, and a constant time each.
+    pub fn from_watches(clause: &[Lit], place: usize, row: &mut Assignment) -> ClauseState
         requires { IsWithin row.old.width clause.now }
         ensures says { IsState row.new.trail clause.now result }
         ensures width { row.new.width ≡ row.old.width }
         ensures trail { row.new.trail ≡ row.old.trail }
     {
-        match says_nothing_from(clause, row.start(place), row) {
-            Some(start) => {
-                row.set_start(place, start);
-                ClauseState::Other
-            }
-            None => {
-                let state = ClauseState::of(clause, row);
-                row.set_start(place, 0);
-                state
-            }
+        let watches = row.watches(place);
+        let watched = look_at(clause, watches, row);
+        if let ClauseState::Other = watched.state {
+            return ClauseState::Other;
         }
+        let onward = watched.onward(clause, watches.second, row);
+        if let ClauseState::Other = onward.state {
+            row.watch(place, onward.watches);
+            return ClauseState::Other;
+        }
+        let whole = Look::whole(clause, row);
+        row.watch(place, whole.watches);
+        whole.state
     }
 }
 
-/// The place where it shows, from the start on, that a literal is true or two are open; `None` where it
-/// does not show there.
-fn says_nothing_from(clause: &[Lit], start: usize, row: &Assignment) -> Option<usize>
+/// A look at the watched literals, and at none where a place is past the end.
+fn look_at(clause: &[Lit], watches: Watches, row: &Assignment) -> Look
     requires { IsWithin row.now.width clause.now }
-    ensures { IsSome result → IsState row.now.trail clause.now ClauseState.Other }
+    ensures { SomeSay row.now.trail clause.now result.state }
 {
-    let mut unit = None;
-    for place in start..clause.len() {
-        let l = clause[place];
-        match row.value(l) {
-            Truth::False => (),
-            Truth::True => return Some(place),
-            Truth::Open => match unit {
-                None => unit = Some(l),
-                Some(k) => {
-                    if k != l {
-                        return Some(place);
-                    }
-                }
-            },
-        }
+    let look = Look::new();
+    match (clause.get(watches.first), clause.get(watches.second)) {
+        (Some(k), Some(l)) => look
+            .with(*k, watches.first, row)
+            .with(*l, watches.second, row),
+        _ => look,
     }
-    None
 }

@@ -1,4 +1,5 @@
-// Copies of literals, clauses and steps.
+//! Copies of literals, clauses and steps.
+
 ghost use Rattle.std.specs.Prelude.{◌≡◌, IfOk, map};
 ghost use Rattle.cnf_core.specs.Literal.{denial};
 ghost use Rattle.refutation_checker.specs.Derivation.{clause_of};

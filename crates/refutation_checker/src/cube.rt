@@ -1,4 +1,5 @@
-// Whether a cube conflicts, and needs each of its literals to do so.
+//! Whether a cube conflicts, and needs each of its literals to do so.
+
 ghost use Rattle.std.specs.Prelude.{◌≡◌, ◌<◌, [], ◌↔◌, IsTrue, All, length, remove};
 ghost use Rattle.cnf_core.specs.Propagation.{Conflicts};
 ghost use Rattle.refutation_checker.specs.Acceptance.{IsLeastConflict, IsEachNeeded};

@@ -1,4 +1,5 @@
-// Deciding literals: they are set in order, as long as no variable stands twice.
+//! Deciding literals: they are set in order, as long as no variable stands twice.
+
 ghost use Rattle.std.specs.Prelude.{◌≡◌, ◌<◌, ◌≤◌, ◌++◌, ◌∷◌, [], ◌↔◌, IsTrue, length, map};
 ghost use Rattle.std.specs.Bool.{OnTrue};
 ghost use Rattle.cnf_core.specs.Literal.{denial, IsApart};

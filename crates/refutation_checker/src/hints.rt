@@ -1,4 +1,5 @@
-// Reverse unit propagation along hints: each hint's clause sets one literal, until one is false.
+//! Reverse unit propagation along hints: each hint's clause sets one literal, until one is false.
+
 ghost use Rattle.std.specs.Prelude.{◌≡◌, ◌↔◌, [], IsTrue, All, length};
 ghost use Rattle.refutation_checker.specs.Variables.{FollowsAmong};
 ghost use Rattle.refutation_checker.specs.Assigned.{IsWithin};

@@ -1,5 +1,6 @@
-// Where literals stand: for each literal the clauses that have it, and the clauses that say something
-// before any literal is set.
+//! Where literals stand: for each literal the clauses that have it, and the clauses that say something
+//! before any literal is set.
+
 ghost use Rattle.std.specs.Prelude.{◌≡◌, ◌<◌, ◌↔◌, ◌*◌, ◌^◌, [], All, IsTrue, IfOk, OnOk, Contains, length, slice_index_or};
 ghost use Rattle.std.specs.Bool.{OnFalse};
 ghost use Rattle.cnf_core.specs.declared.formula.Lit.{Lit as Literal};

@@ -1,5 +1,5 @@
-// An independent checker of derivations: it accepts a step by its hints and a cube by unit propagation,
-// and its answer that a formula is refuted is a theorem. It finds no derivation; `sat_solver` does.
+//! An independent checker of derivations: it accepts a step by its hints and a cube by unit propagation,
+//! and its answer that a formula is refuted is a theorem. It finds no derivation.
 #![tactic(auto)]
 
 mod assignment;
@@ -11,11 +11,12 @@ mod cube;
 mod decide;
 mod hints;
 mod index;
+mod look;
 mod plain;
 mod propagation;
-mod starts;
 #[cfg(test)]
 mod tests;
 mod variables;
+mod watches;
 
 pub use checker::{CheckFault, Checker};

@@ -1,5 +1,6 @@
-// Full unit propagation by passes over all clauses, until one changes nothing: the plain program of
-// its definition.
+//! Full unit propagation by passes over all clauses, until one changes nothing: the plain program of
+//! its definition.
+
 ghost use Rattle.std.specs.Prelude.{◌≡◌, ◌≤◌, ◌↔◌, IsTrue, All, length};
 ghost use Rattle.std.specs.Bool.{OnFalse};
 ghost use Rattle.cnf_core.specs.Propagation.{Conflicts};

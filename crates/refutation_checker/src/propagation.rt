@@ -1,5 +1,6 @@
-// Full unit propagation along the trail: a literal that is set has the clauses looked at that it makes
-// one literal shorter. The contract is that of the plain program.
+//! Full unit propagation along the trail: a literal that is set has the clauses looked at that it makes
+//! one literal shorter. The contract is that of the plain program.
+
 ghost use Rattle.std.specs.Prelude.{◌≡◌, ◌↔◌, IsTrue};
 ghost use Rattle.std.specs.Bool.{OnFalse};
 ghost use Rattle.cnf_core.specs.Propagation.{Conflicts};
@@ -43,7 +44,7 @@ fn visit(known: &ClauseDatabase, places: &[usize], row: &mut Assignment) -> bool
         let Some(clause) = clauses.get(*place) else {
             continue;
         };
-        match ClauseState::from_start(clause.as_slice(), *place, row) {
+        match ClauseState::from_watches(clause.as_slice(), *place, row) {
             ClauseState::Denied => return true,
             ClauseState::Unit(l) => row.set(l),
             ClauseState::Other => (),

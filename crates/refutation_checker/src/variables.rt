@@ -1,4 +1,5 @@
-// The variables of a formula: how many numbers they take, and which numbers they are.
+//! The variables of a formula: how many numbers they take, and which numbers they are.
+
 ghost use Rattle.std.specs.Prelude.{◌≡◌, ◌<◌, ◌≤◌, ◌↔◌, ◌⊎◌, ℕ, false, IsTrue, IfOk, All, Any, length};
 ghost use Rattle.refutation_checker.specs.Assigned.{IsWithin};
 ghost use Rattle.refutation_checker.specs.Derivation.{IsInput};

@@ -32,7 +32,7 @@ returns-in-Denied-clause-visits c =
     let clauses = c.clauses-clauses.result.now in
     let place = get_or c.args.places.now c.loop-place.place-index 0 in
     let same = c.in-Denied.ensures.trail in
-    subst (λ (cs : List (List Lit)). Visits cs c.args.places.now c.args.row.now.trail c.from_start.new.row.trail true) c.clauses-clauses.ensures.are (record {
+    subst (λ (cs : List (List Lit)). Visits cs c.args.places.now c.args.row.now.trail c.from_watches.new.row.trail true) c.clauses-clauses.ensures.are (record {
       grew = rw same c.loop-place.invariant.grew;
       longer = rw same c.loop-place.invariant.longer;
       ends = (
@@ -40,7 +40,7 @@ returns-in-Denied-clause-visits c =
         c.in-Some.clause.now,
         c.in-Some.ensures.lookup.3.0,
         sym c.in-Some.ensures.lookup.1,
-        subst (All (IsFalse c.from_start.new.row.trail)) c.as_slice.ensures c.in-Denied.ensures.says,
+        subst (All (IsFalse c.from_watches.new.row.trail)) c.as_slice.ensures c.in-Denied.ensures.says,
       );
     })
 
@@ -57,13 +57,13 @@ loop-place-preserved c =
     let inside = c.in-Some.ensures.lookup.3.0 in
     let at : slice_get clauses place ≡ Some clause = slice_get_read clauses (length clauses) place clause refl inside c.in-Some.ensures.lookup.1 in
     let stands : Contains clauses clause = (place, inside, sym c.in-Some.ensures.lookup.1) in
-    elim c.match-from_start.branch [
+    elim c.match-from_watches.branch [
       | in-Unit w ↦
           let l = w.in-Unit.l in
           let same = w.in-Unit.ensures.trail in
           let unit : IsUnit trail clause l =
-          subst (λ (t : List Lit). IsUnit t clause l) same (subst (λ (lits : List Lit). IsUnit c.from_start.new.row.trail lits l) c.as_slice.ensures w.in-Unit.ensures.says) in
-          let trail_is : c.match-from_start.row.trail ≡ trail ++ l ∷ [] =
+          subst (λ (t : List Lit). IsUnit t clause l) same (subst (λ (lits : List Lit). IsUnit c.from_watches.new.row.trail lits l) c.as_slice.ensures w.in-Unit.ensures.says) in
+          let trail_is : c.match-from_watches.row.trail ≡ trail ++ l ∷ [] =
           ap (λ (a : Assigned). a.trail) w.row-is ∙ w.set.ensures.trail ∙ ap (λ (t : List Lit). t ++ l ∷ []) same in
           record {
             width = ap (λ (a : Assigned). a.width) w.row-is ∙ w.set.ensures.width ∙ w.in-Unit.ensures.width ∙ inv.width;
@@ -75,11 +75,11 @@ loop-place-preserved c =
       | in-Other w ↦
           let same = w.in-Other.ensures.trail in
           let says : IsState trail clause Other =
-          subst (λ (t : List Lit). IsState t clause Other) same (subst (λ (lits : List Lit). IsState c.from_start.new.row.trail lits Other) c.as_slice.ensures w.in-Other.ensures.says) in
+          subst (λ (t : List Lit). IsState t clause Other) same (subst (λ (lits : List Lit). IsState c.from_watches.new.row.trail lits Other) c.as_slice.ensures w.in-Other.ensures.says) in
           let settles : Settles clauses (take (i + 1) places) old trail =
           rw (take_more places i 0 c.loop-place-test.true) (settles-other clauses (take i places) place clause old trail at says inv.settles) in
-          let trail_is : c.match-from_start.row.trail ≡ trail = ap (λ (a : Assigned). a.trail) w.row-is ∙ same in
-          let width_is : c.match-from_start.row.width ≡ c.loop-place.row.width = ap (λ (a : Assigned). a.width) w.row-is ∙ w.in-Other.ensures.width in
+          let trail_is : c.match-from_watches.row.trail ≡ trail = ap (λ (a : Assigned). a.trail) w.row-is ∙ same in
+          let width_is : c.match-from_watches.row.width ≡ c.loop-place.row.width = ap (λ (a : Assigned). a.width) w.row-is ∙ w.in-Other.ensures.width in
           record {
             width = width_is ∙ inv.width;
             longer = rw trail_is inv.longer;
