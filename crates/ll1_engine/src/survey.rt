@@ -8,7 +8,7 @@ ghost use Rattle.ll1_engine.specs.Marks.{marked, all_in, begins_in};
 ghost use Rattle.ll1_engine.specs.Survey.{AreBelow, MarksTokens, MarksAlive, MarksNullable, MarksFirst, MarksFollow, PicksMarked, IsSight, AreAllSights, IsSurvey};
 
 use crate::checked::Choices;
-use crate::grammar::{Row, Symbol, Token};
+use crate::grammar::{Row, Token};
 use crate::sets::{all_marked, begins, derivers, spread_first, spread_follow};
 use sqlite_items::Items;
 use std::alloc::{AllocError, Global};
