@@ -1,6 +1,7 @@
 #!/bin/bash
-# Times `accept` and `accept_cube` of the checker on random 3-clauses near the threshold, outside the gate.
-# It builds a scratch program over a copy of the repository's crates, so it needs the kit on the PATH.
+# Times `accept` and `accept_cube` of the checker outside the gate: random 3-clauses near the threshold, one step among
+# ever more clauses, and long clauses. It fails where a line is not answered as it must be, or a random cube takes over
+# 5 ms. It builds a scratch program over a copy of the crates, so it needs the kit on the PATH.
 # Usage: bench/checker.sh [FOLDER]   (default: a new temporary folder, removed afterwards)
 set -euo pipefail
 root=$(cd "$(dirname "$0")/.." && pwd)

@@ -2,11 +2,10 @@
 
 ghost use Rattle.std.specs.Prelude.{◌≡◌};
 ghost use Rattle.refutation_checker.specs.Assigned.{IsWithin};
-ghost use Rattle.refutation_checker.specs.ClauseStates.{IsState, SomeSay};
+ghost use Rattle.refutation_checker.specs.ClauseStates.{IsState};
 
 use crate::assignment::Assignment;
 use crate::look::Look;
-use crate::watches::Watches;
 use cnf_core::Lit;
 
 /// What a clause says under an assignment.
@@ -28,9 +27,10 @@ impl ClauseState {
         Look::whole(clause, row).state
     }
 
-    /// As `of`, for the clause of a number, but first by its watches, which mostly show that it says nothing. Where
-    /// they do not, others are looked for from the later one to the end, and then once from the start. While literals
-    /// are only set, all looks at a clause of n literals so take time in n together, and a constant time each.
+    /// As `of`, but first by the watches of the clause, which is at this place among all: mostly they show that it says
+    /// nothing. Where they do not, others are looked for from the later one to the end, and then once from the start.
+    /// While literals are only set, all looks at a clause of n literals so take time in n together, and a constant time
+    /// each.
     pub fn from_watches(clause: &[Lit], place: usize, row: &mut Assignment) -> ClauseState
         requires { IsWithin row.old.width clause.now }
         ensures says { IsState row.new.trail clause.now result }
@@ -38,7 +38,7 @@ impl ClauseState {
         ensures trail { row.new.trail ≡ row.old.trail }
     {
         let watches = row.watches(place);
-        let watched = look_at(clause, watches, row);
+        let watched = Look::watched(clause, watches, row);
         if let ClauseState::Other = watched.state {
             return ClauseState::Other;
         }
@@ -50,19 +50,5 @@ impl ClauseState {
         let whole = Look::whole(clause, row);
         row.watch(place, whole.watches);
         whole.state
-    }
-}
-
-/// A look at the watched literals, and at none where a place is past the end.
-fn look_at(clause: &[Lit], watches: Watches, row: &Assignment) -> Look
-    requires { IsWithin row.now.width clause.now }
-    ensures { SomeSay row.now.trail clause.now result.state }
-{
-    let look = Look::new();
-    match (clause.get(watches.first), clause.get(watches.second)) {
-        (Some(k), Some(l)) => look
-            .with(*k, watches.first, row)
-            .with(*l, watches.second, row),
-        _ => look,
     }
 }

@@ -2,7 +2,7 @@
 
 ghost use Rattle.std.specs.Prelude.{◌≡◌, ◌<◌, ◌∷◌, [], drop};
 ghost use Rattle.refutation_checker.specs.Assigned.{IsWithin};
-ghost use Rattle.refutation_checker.specs.ClauseStates.{IsState, SaysWith};
+ghost use Rattle.refutation_checker.specs.ClauseStates.{IsState, SaysWith, SomeSay};
 
 use crate::assignment::{Assignment, Truth};
 use crate::clause_state::ClauseState;
@@ -36,6 +36,20 @@ impl Look {
         Look::new().onward(clause, 0, row)
     }
 
+    /// A look at the watched literals, and at none where a place is past the end.
+    pub fn watched(clause: &[Lit], watches: Watches, row: &Assignment) -> Look
+        requires { IsWithin row.now.width clause.now }
+        ensures { SomeSay row.now.trail clause.now result.state }
+    {
+        let look = Look::new();
+        match (clause.get(watches.first), clause.get(watches.second)) {
+            (Some(k), Some(l)) => look
+                .with(*k, watches.first, row)
+                .with(*l, watches.second, row),
+            _ => look,
+        }
+    }
+
     /// With one literal more, at its place.
     pub fn with(self, l: Lit, place: usize, row: &Assignment) -> Look
         requires { l.var < row.now.width }
@@ -55,19 +69,6 @@ impl Look {
         }
     }
 
-    /// With a literal that leaves nothing to say: a true one, or another open one.
-    fn ended(self, place: usize) -> Look
-        ensures { result.state ≡ ClauseState.Other }
-    {
-        Look {
-            state: ClauseState::Other,
-            watches: Watches {
-                first: self.watches.first,
-                second: place,
-            },
-        }
-    }
-
     /// With the literals from a place on, as far as it takes to see that the clause says nothing.
     pub fn onward(self, clause: &[Lit], from: usize, row: &Assignment) -> Look
         requires { IsWithin row.now.width clause.now }
@@ -81,5 +82,18 @@ impl Look {
             }
         }
         look
+    }
+
+    /// With a literal that leaves nothing to say: a true one, or another open one.
+    fn ended(self, place: usize) -> Look
+        ensures { result.state ≡ ClauseState.Other }
+    {
+        Look {
+            state: ClauseState::Other,
+            watches: Watches {
+                first: self.watches.first,
+                second: place,
+            },
+        }
     }
 }

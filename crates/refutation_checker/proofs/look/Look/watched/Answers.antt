@@ -3,7 +3,7 @@ use Rattle.std.proofs.Common.{[], ◌∷◌, sym}
 use Rattle.std.specs.Prelude.{Contains}
 use Rattle.std.proofs.lemmas.List.Elements.{All-cons, All-nil}
 use Rattle.refutation_checker.proofs.Scan.{says-none}
-use Rattle.refutation_checker.proofs.clause_state.look_at.Goals as goal
+use Rattle.refutation_checker.proofs.look.Look.watched.Goals as goal
 
 pub returns-in-Some-Some : goal.returns-in-Some-Some
 returns-in-Some-Some c =
