@@ -80,10 +80,10 @@ ends_there (Some rest) None third a b h k e = let f = h.3 in cc
 ends_there (Some rest) (Some left) third a b h k e = k.3 ∙ ap Some (nil_right k.0 k.1 (sym k.2 ∙ e))
 
 -- what is taken of an opened file
-pub taken_of_opened : (most : ℕ) (files : Option (List ℕ → Option (List ℕ))) (name : List ℕ) (old opened now : Option (List ℕ)) → OpensAtStart files name opened → TakesFront most opened now → TakesAtMost most files name old now
-taken_of_opened most None name old opened now h k = tt
-taken_of_opened most (Some files) name old None now h k = let e = h.0 in cc
-taken_of_opened most (Some files) name old (Some bytes) now h k = inr (bytes, k.0, h.1, k.1, k.2)
+pub taken_of_opened : (most : ℕ) (files : Option (List ℕ → Option (List ℕ))) (name : List ℕ) (opened left : Option (List ℕ)) → OpensAtStart files name opened → TakesFront most opened left → TakesAtMost most files name left
+taken_of_opened most None name opened left h k = tt
+taken_of_opened most (Some files) name None left h k = let e = h.0 in cc
+taken_of_opened most (Some files) name (Some bytes) left h k = (bytes, k.0, h.1, k.1, k.2)
 
 -- an opened file that was read whole is the one of the name
 pub whole_of_opened : {Z E : Type 0} (r : Result Z E) (Short : Z → Type 0) (files : Option (List ℕ → Option (List ℕ))) (name : List ℕ) (opened left : Option (List ℕ)) (readable : Bool) → OpensAtStart files name opened

@@ -1,5 +1,5 @@
 -- Reading a file from its start to its end, in pieces.
-use Rattle.std.specs.Prelude.{◌≡◌, ◌⊎◌, ℕ, ◌≤◌, Bool, false, List, [], ◌++◌, Option, None, Some, IfSome, take, drop}
+use Rattle.std.specs.Prelude.{◌≡◌, ℕ, ◌≤◌, Bool, false, List, [], ◌++◌, Option, None, Some, IfSome, take, drop}
 
 -- what was left before is what was read since, and then what is left now
 abbrev pub MovesOn : Option (List ℕ) → List ℕ → Option (List ℕ) → List ℕ → Type 0
@@ -21,12 +21,11 @@ abbrev pub TakesFront : ℕ → Option (List ℕ) → Option (List ℕ) → Type
 TakesFront most None left = Unit {0}
 TakesFront most (Some rest) left = (count : ℕ) × (count ≤ most) × (left ≡ Some (drop count rest))
 
--- Where the desk tells its files, no file was opened, or one of this name was, and at most this many bytes were
--- taken of it.
-abbrev pub TakesAtMost : ℕ → Option (List ℕ → Option (List ℕ)) → List ℕ → Option (List ℕ) → Option (List ℕ) → Type 0
-TakesAtMost most None name left now = Unit {0}
-TakesAtMost most (Some files) name left now =
-    (now ≡ left) ⊎ ((bytes : List ℕ) × (count : ℕ) × (files name ≡ Some bytes) × (count ≤ most) × (now ≡ Some (drop count bytes)))
+-- where the desk tells its files, the one of this name is open, and at most this many bytes were taken of it
+abbrev pub TakesAtMost : ℕ → Option (List ℕ → Option (List ℕ)) → List ℕ → Option (List ℕ) → Type 0
+TakesAtMost most None name left = Unit {0}
+TakesAtMost most (Some files) name left =
+    (bytes : List ℕ) × (count : ℕ) × (files name ≡ Some bytes) × (count ≤ most) × (left ≡ Some (drop count bytes))
 
 -- the open file was read to its end: it is no longer readable, and where the desk told of it, nothing is left
 pub record IsReadWhole {T : Type 0} (told : Option T) (left : Option (List ℕ)) (readable : Bool) : Type 0 where

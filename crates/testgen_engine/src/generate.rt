@@ -1,6 +1,6 @@
 //! The job of `gen`: from the name of a source to what is written. A read that fails is told;
 //! `Failed` says here that a write failed.
-ghost use Rattle.std.specs.Prelude.{◌≡◌, ◌<◌, ℕ, List, [], ◌∷◌, Option, length, take, IfOk, map, string_bytes};
+ghost use Rattle.std.specs.Prelude.{◌≡◌, ◌<◌, ◌≤◌, ◌⊎◌, ℕ, List, [], ◌∷◌, Option, length, take, IfOk, map, string_bytes};
 ghost use Rattle.tg_base.specs.declared.desk.Out.TheVariants as out;
 ghost use Rattle.tg_base.specs.Faults.{HasCause};
 ghost use Rattle.testgen_engine.specs.Endings.{HasFile, AsksFront, IsFound, not_built};
@@ -155,8 +155,8 @@ fn generate_from<D: Desk>(alloc: Global, name: &str, desk: &mut D) -> Result<Sta
     ensures asked { AsksFront (D.asked desk.old) (D.asked desk.new) (name.now ∷ []) }
     ensures whole { IfOk result (λ status. status ≡ Status.Done
         → IsReadWhole (D.files desk.old) (D.rest desk.new) (D.readable desk.new)) }
-    ensures taken { TakesAtMost 262145 (D.files desk.old) name.now
-        (D.rest desk.old) (D.rest desk.new) }
+    ensures taken { TakesAtMost 262145 (D.files desk.old) name.now (D.rest desk.new)
+        ⊎ (IfOk result (λ status. 4 ≤ status_of status) × (D.rest desk.new ≡ D.rest desk.old)) }
     ensures cause { HasCause (D.write_faults desk.old) (D.write_faults desk.new) result }
     ensures files_stay { D.files desk.new ≡ D.files desk.old }
 {
@@ -179,7 +179,8 @@ pub fn run<D: Desk>(alloc: Global, words: &[String], desk: &mut D) -> Result<Sta
     ensures whole { IfOk result (λ status. status ≡ Status.Done
         → IsReadWhole (D.files desk.old) (D.rest desk.new) (D.readable desk.new)) }
     ensures taken { (name : List ℕ) → AsksGen (map string_bytes words.now) name
-        → TakesAtMost 262145 (D.files desk.old) name (D.rest desk.old) (D.rest desk.new) }
+        → TakesAtMost 262145 (D.files desk.old) name (D.rest desk.new)
+        ⊎ (IfOk result (λ status. 4 ≤ status_of status) × (D.rest desk.new ≡ D.rest desk.old)) }
     ensures nothing_taken { AsksNothing (map string_bytes words.now)
         → D.rest desk.new ≡ D.rest desk.old }
     ensures cause { HasCause (D.write_faults desk.old) (D.write_faults desk.new) result }

@@ -77,11 +77,13 @@ pub fn testgen<D: Desk>(alloc: Global, words: &[String], desk: &mut D) -> u8
         → IsCutShort (D.files desk.old) (map string_bytes words.now)
         (D.read_faults desk.old) (D.read_faults desk.new) (D.written desk.old) (D.written desk.new) }
 
-    // What is finished was read to its end, and at most 262,145 bytes are taken of any source.
+    // What is finished was read to its end. At most 262,145 bytes are taken of any source, and none of
+    // one that could not be opened.
     ensures read_whole { (result ≡ 0) ⊎ (result ≡ 3)
         → IsReadWhole (D.files desk.old) (D.rest desk.new) (D.readable desk.new) }
     ensures taken { (name : List ℕ) → AsksGen (map string_bytes words.now) name
-        → TakesAtMost 262145 (D.files desk.old) name (D.rest desk.old) (D.rest desk.new) }
+        → TakesAtMost 262145 (D.files desk.old) name (D.rest desk.new)
+        ⊎ ((4 ≤ result) × (D.rest desk.new ≡ D.rest desk.old)) }
     ensures nothing_taken { AsksNothing (map string_bytes words.now)
         → D.rest desk.new ≡ D.rest desk.old }
 

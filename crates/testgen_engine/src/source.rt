@@ -1,6 +1,6 @@
 //! The bytes of the source, read through the desk. `Failed` says here that an open or a read
 //! failed.
-ghost use Rattle.std.specs.Prelude.{◌≡◌, ◌≤◌, ◌<◌, ◌-◌, ℕ, List, [], ◌∷◌, take, length, false, IsTrue, OnOk, IfOk, vec_len};
+ghost use Rattle.std.specs.Prelude.{◌≡◌, ◌≤◌, ◌<◌, ◌-◌, ◌⊎◌, IsErr, ℕ, List, [], ◌∷◌, take, length, false, IsTrue, OnOk, IfOk, vec_len};
 ghost use Rattle.tg_base.specs.Faults.{HasCause};
 ghost use Rattle.testgen_engine.specs.Keeps.{KeepsWriting};
 ghost use Rattle.testgen_engine.specs.Source.{MovesOn, AtEnd, IsFront, TakesFront, TakesAtMost, IsReadWhole};
@@ -65,8 +65,8 @@ pub fn read_source<D: Desk>(alloc: Global, name: &str, desk: &mut D) -> Result<V
         × (bytes.items ≡ take 262145 whole)) }
     ensures ended { IfOk result (λ bytes. length bytes.items < 262145
         → IsReadWhole (D.files desk.old) (D.rest desk.new) (D.readable desk.new)) }
-    ensures taken { TakesAtMost 262145 (D.files desk.old) name.now
-        (D.rest desk.old) (D.rest desk.new) }
+    ensures taken { TakesAtMost 262145 (D.files desk.old) name.now (D.rest desk.new)
+        ⊎ (IsErr result × (D.rest desk.new ≡ D.rest desk.old)) }
     ensures asked { AsksFront (D.asked desk.old) (D.asked desk.new) (name.now ∷ []) }
     ensures cause { HasCause (D.read_faults desk.old) (D.read_faults desk.new) result }
     ensures stays { KeepsWriting D.files D.written D.write_faults desk.old desk.new }
