@@ -8,6 +8,6 @@ pub mod PartLaws
 pub mod RowLaws
 pub mod SaturationLaws
 pub mod ShifterLaws
+pub mod SignLaws
 pub mod SignedRowLaws
-pub mod Signs
-pub mod Widths
+pub mod WidthLaws

@@ -5,10 +5,11 @@ ghost use Rattle.std.specs.Int.{int_div_euclid};
 ghost use Rattle.bits_core.specs.declared.number.Bits.{Bits};
 ghost use Rattle.bits_core.specs.declared.operator.Op.{Op};
 ghost use Rattle.bits_core.specs.declared.operator.Op.TheVariants.{Add, Sub, Mul, AddSatU, SubSatU, AddSatS, SubSatS, And, Or, Xor, Not, Neg, Shl, ShrU, ShrS, Cat};
+ghost use Rattle.bits_core.specs.declared.operator.OpShape.TheVariants.{Test};
 ghost use Rattle.bits_core.specs.BitList.{bit, number_of, bits_of, sign_bit};
 ghost use Rattle.bits_core.specs.Circuit.{shifted_left, shifted_right, exclusive_or, bitwise, signed_sum_or_end, signed_difference_or_end, sum_bit, ripple_sum, ripple_carry, shift_and_add, barrel_left, barrel_right, equal_bits, sign_turned};
 ghost use Rattle.bits_core.specs.Number.{signed_value, wrapped, slice_value, extend_value};
-ghost use Rattle.bits_core.specs.Operator.{WidthsFit, shape_of, result_width, operator_value, row_of};
+ghost use Rattle.bits_core.specs.Operator.{WidthsFit, shape_of, result_width, operator_value, test_value, row_of};
 
 use crate::operator::OPERATORS;
 
@@ -21,6 +22,14 @@ pub fn table_is_whole()
 pub fn results_fit()
     ensures { (op : Op) (w x v y : ℕ) → WidthsFit (shape_of op) w v → x < 2 ^ w → y < 2 ^ v →
         operator_value op w x v y < 2 ^ result_width (shape_of op) w v }
+{}
+
+/// A comparison's result is 1 exactly where it holds, and else 0.
+pub fn comparisons_hold()
+    ensures value { (op : Op) (w x v y : ℕ) → shape_of op ≡ Test →
+        operator_value op w x v y ≡ (if test_value op w x y then 1 else 0) }
+    ensures truth { (op : Op) (w x v y : ℕ) → shape_of op ≡ Test →
+        (operator_value op w x v y == 1) ≡ test_value op w x y }
 {}
 
 /// Two numbers of one width and one value are one.

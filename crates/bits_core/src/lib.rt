@@ -9,7 +9,7 @@
 //!
 //! - `NumberLaws` (a number is its width and its value): tables and sets of numbers.
 //! - `RowLaws` (a result fits; a difference as a sum): every kind of value, and the rewriting of terms.
-//! - `Signs`, `SignedRowLaws` (the two readings of one value, and that wrapping serves both): constants, the typed program.
+//! - `SignLaws`, `SignedRowLaws` (the two readings of one value, and that wrapping serves both): constants, the typed program.
 //! - `PartLaws` (slices, joins, extension and cut): header fields, packets, assignments to slices.
 //! - `BitListLaws` (a number and the list of its bits): each circuit, masks, the bits of an input.
 //! - `BitwiseLaws`, `AdderLaws`, `MultiplierLaws`, `ShifterLaws`, `ComparatorLaws`, `SaturationLaws`: the circuits of the

@@ -1,4 +1,4 @@
-use Rattle.bits_core.proofs.AdderLaws.{add_by_ripple, subtract_by_ripple, negate_by_ripple, get_or-ripple_sum, less_equal_by_ripple}
+use Rattle.bits_core.proofs.AdderLaws.{add_by_ripple, subtract_by_ripple, negate_by_ripple, get_or_ripple_sum, less_equal_by_ripple}
 use Rattle.bits_core.proofs.laws.adders_add.Goals as goal
 
 pub returns-clause-sum : goal.returns-clause-sum
@@ -11,7 +11,7 @@ pub returns-clause-negation : goal.returns-clause-negation
 returns-clause-negation c = negate_by_ripple
 
 pub returns-clause-place : goal.returns-clause-place
-returns-clause-place c = get_or-ripple_sum
+returns-clause-place c = get_or_ripple_sum
 
 pub returns-clause-carry : goal.returns-clause-carry
 returns-clause-carry c = less_equal_by_ripple

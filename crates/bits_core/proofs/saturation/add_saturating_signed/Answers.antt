@@ -2,7 +2,7 @@ use Rattle.std.proofs.Common.{◌∙◌, ◌≡◌, ◌+◌, ◌-◌, ◌*◌, �
 use Rattle.std.specs.Prelude.{◌+ℤ◌, ◌-ℤ◌}
 use Rattle.std.proofs.lemmas.Int.{ints}
 use Rattle.bits_core.specs.Number.{signed_value, wrapped}
-use Rattle.bits_core.proofs.Signs.{half_twice, saturate_biased}
+use Rattle.bits_core.proofs.SignLaws.{half_twice, saturate_biased}
 use Rattle.bits_core.proofs.saturation.add_saturating_signed.Goals as goal
 use Rattle.bits_core.proofs.saturation.add_saturating_signed.Goals.{then-right-half, else-right-half}
 

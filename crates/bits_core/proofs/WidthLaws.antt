@@ -28,8 +28,8 @@ pub le_wider : (x w k : ℕ) → x < 2 ^ w → w ≤ k → x ≤ 2 ^ k
 le_wider x w k fits within = omega (arith, pow_le w k within)
 
 -- a cut after a cut at a greater width
-pub mod-mod_wider : (n w k : ℕ) → w ≤ k → n % 2 ^ k % 2 ^ w ≡ n % 2 ^ w
-mod-mod_wider n w k within =
+pub mod_mod_wider : (n w k : ℕ) → w ≤ k → n % 2 ^ k % 2 ^ w ≡ n % 2 ^ w
+mod_mod_wider n w k within =
     let e : (k - w) + w ≡ k = omega arith in
     subst (λ m. n % 2 ^ m % 2 ^ w ≡ n % 2 ^ w) e (mod-mod-pow n (k - w) w)
 
@@ -37,9 +37,9 @@ mod-mod_wider n w k within =
 pub wrapped_is : (w : ℕ) (z : ℤ) (k m : ℕ) → z +ℤ pos (k * 2 ^ w) ≡ pos m → wrapped w z ≡ m % 2 ^ w
 wrapped_is w z k m e = ap unsigned_abs (int_rem_euclid_is z (pos (2 ^ w)) (2 ^ w) k m (pow_pos w) refl e)
 
-pub wrapped-below : (w : ℕ) (z : ℤ) → wrapped w z < 2 ^ w
-wrapped-below w (pos n) = mod_below n (2 ^ w) (pow_pos w)
-wrapped-below w (negsuc n) = omega (arith, pow_pos w)
+pub wrapped_below : (w : ℕ) (z : ℤ) → wrapped w z < 2 ^ w
+wrapped_below w (pos n) = mod_below n (2 ^ w) (pow_pos w)
+wrapped_below w (negsuc n) = omega (arith, pow_pos w)
 
 one_more : (q p : ℕ) → (1 + q) * p ≡ p + q * p
 one_more q p = omega arith
@@ -48,9 +48,9 @@ negative_is : (n p whole rest m : ℕ) → whole + rest ≡ n → rest < p → m
 negative_is n p whole rest m split below e = omega (arith, ints)
 
 -- a cut of the bits of an integer
-pub mod-wrapped : (k w : ℕ) (z : ℤ) → w ≤ k → wrapped k z % 2 ^ w ≡ wrapped w z
-mod-wrapped k w (pos n) within = mod-mod_wider n w k within
-mod-wrapped k w (negsuc n) within =
+pub mod_wrapped : (k w : ℕ) (z : ℤ) → w ≤ k → wrapped k z % 2 ^ w ≡ wrapped w z
+mod_wrapped k w (pos n) within = mod_mod_wider n w k within
+mod_wrapped k w (negsuc n) within =
     let p = 2 ^ k in
     let q = (1 + n / p) * 2 ^ (k - w) in
     let times : q * 2 ^ w ≡ p + n / p * p =
@@ -59,15 +59,15 @@ mod-wrapped k w (negsuc n) within =
     sym (wrapped_is w (negsuc n) q (p - 1 - n % p) (negative_is n p (n / p * p) (n % p) (q * 2 ^ w) (shr_split n k) (mod_below n p (pow_pos k)) times))
 
 -- the difference, taken at a greater width and cut
-pub wrapped-sub : (w k x y : ℕ) → w ≤ k → y ≤ 2 ^ k → (x + (2 ^ k - y)) % 2 ^ k % 2 ^ w ≡ wrapped w (pos x -ℤ pos y)
-wrapped-sub w k x y within small =
+pub wrapped_sub : (w k x y : ℕ) → w ≤ k → y ≤ 2 ^ k → (x + (2 ^ k - y)) % 2 ^ k % 2 ^ w ≡ wrapped w (pos x -ℤ pos y)
+wrapped_sub w k x y within small =
     let e : 2 ^ k ≡ 2 ^ (k - w) * 2 ^ w = pow_split w k within in
     let z : (pos x -ℤ pos y) +ℤ pos (2 ^ (k - w) * 2 ^ w) ≡ pos (x + (2 ^ k - y)) = omega (arith, ints) in
-    mod-mod_wider (x + (2 ^ k - y)) w k within ∙ sym (wrapped_is w (pos x -ℤ pos y) (2 ^ (k - w)) (x + (2 ^ k - y)) z)
+    mod_mod_wider (x + (2 ^ k - y)) w k within ∙ sym (wrapped_is w (pos x -ℤ pos y) (2 ^ (k - w)) (x + (2 ^ k - y)) z)
 
 -- the difference, from the sum with what y lacks to 2^w
-pub mod-sub : (w x y : ℕ) → y ≤ 2 ^ w → (x + (2 ^ w - y)) % 2 ^ w ≡ wrapped w (pos x -ℤ pos y)
-mod-sub w x y small =
+pub mod_sub : (w x y : ℕ) → y ≤ 2 ^ w → (x + (2 ^ w - y)) % 2 ^ w ≡ wrapped w (pos x -ℤ pos y)
+mod_sub w x y small =
     let z : (pos x -ℤ pos y) +ℤ pos (1 * 2 ^ w) ≡ pos (x + (2 ^ w - y)) = omega (arith, ints) in
     sym (wrapped_is w (pos x -ℤ pos y) 1 (x + (2 ^ w - y)) z)
 
@@ -88,7 +88,7 @@ or_of_shifted x w y v k p q within =
 pub shl_within : (x w y k : ℕ) → w ≤ k → y < w → x * 2 ^ y % 2 ^ k % 2 ^ w ≡ x * 2 ^ min y w % 2 ^ w
 shl_within x w y k within short =
     let e : min y w ≡ y = omega arith in
-    mod-mod_wider (x * 2 ^ y) w k within ∙ ap (λ m. x * 2 ^ m % 2 ^ w) (sym e)
+    mod_mod_wider (x * 2 ^ y) w k within ∙ ap (λ m. x * 2 ^ m % 2 ^ w) (sym e)
 
 pub shl_past : (x w y : ℕ) → w ≤ y → 0 ≡ x * 2 ^ min y w % 2 ^ w
 shl_past x w y long =
