@@ -1,12 +1,12 @@
 //! Laws of the definitions, each the contract of a function that does nothing: what crates above may rest on. The lemmas
 //! of the same content are in `proofs/`, where a proof takes them from.
 ghost use Rattle.std.specs.Prelude.{◌≡◌, ℕ, ℤ, pos, ◌+◌, ◌-◌, ◌*◌, ◌/◌, ◌%◌, ◌^◌, ◌<◌, ◌≤◌, ◌+ℤ◌, ◌-ℤ◌, ◌*ℤ◌, ◌≤ℤ◌, ◌<ℤ◌, Bool, true, false, not, ◌&&◌, ◌||◌, if◌then◌else◌, map, List, ◌++◌, length, take, drop, replicate, slice_index_or, Contains, nat_lt, nat_le, int_lt, int_le, ◌==◌};
-ghost use Rattle.std.specs.Int.{int_div_euclid};
+ghost use Rattle.std.specs.Int.{bit_at, int_div_euclid};
 ghost use Rattle.bits_core.specs.declared.number.Bits.{Bits};
 ghost use Rattle.bits_core.specs.declared.operator.Op.{Op};
 ghost use Rattle.bits_core.specs.declared.operator.Op.TheVariants.{Add, Sub, Mul, AddSatU, SubSatU, AddSatS, SubSatS, And, Or, Xor, Not, Neg, Shl, ShrU, ShrS, Cat};
 ghost use Rattle.bits_core.specs.declared.operator.OpShape.TheVariants.{Test};
-ghost use Rattle.bits_core.specs.BitList.{bit, number_of, bits_of, sign_bit};
+ghost use Rattle.bits_core.specs.BitList.{number_of, bits_of, sign_bit};
 ghost use Rattle.bits_core.specs.Circuit.{shifted_left, shifted_right, exclusive_or, bitwise, signed_sum_or_end, signed_difference_or_end, sum_bit, ripple_sum, ripple_carry, shift_and_add, barrel_left, barrel_right, equal_bits, sign_turned};
 ghost use Rattle.bits_core.specs.Number.{signed_value, wrapped, slice_value, extend_value};
 ghost use Rattle.bits_core.specs.Operator.{WidthsFit, shape_of, result_width, operator_value, test_value, row_of};
@@ -107,7 +107,8 @@ pub fn extensions_are_cut()
 pub fn bits_and_numbers()
     ensures number { (w x : ℕ) → number_of (bits_of w x) ≡ x % 2 ^ w }
     ensures list { (bs : List Bool) → bits_of (length bs) (number_of bs) ≡ bs }
-    ensures place { (bs : List Bool) (place : ℕ) → bit (number_of bs) place ≡ slice_index_or bs place false }
+    ensures place { (bs : List Bool) (place : ℕ) →
+        (bit_at (number_of bs) place == 1) ≡ slice_index_or bs place false }
 {}
 
 /// For circuits of one gate a place.
