@@ -1,5 +1,5 @@
 use Rattle.bits_core.proofs.AdderLaws.{add_by_ripple, subtract_by_ripple, negate_by_ripple, get_or_ripple_sum, less_equal_by_ripple}
-use Rattle.bits_core.proofs.laws.adders_add.Goals as goal
+use Rattle.bits_core.proofs.laws.circuits.adders_add.Goals as goal
 
 pub returns-clause-sum : goal.returns-clause-sum
 returns-clause-sum c = add_by_ripple

@@ -1,5 +1,5 @@
 use Rattle.bits_core.proofs.BitwiseLaws.{and_by_bits, or_by_bits, xor_by_bits, not_by_bits}
-use Rattle.bits_core.proofs.laws.gates_work_place_by_place.Goals as goal
+use Rattle.bits_core.proofs.laws.circuits.gates_work_place_by_place.Goals as goal
 
 pub returns-clause-both : goal.returns-clause-both
 returns-clause-both c = and_by_bits

@@ -1,5 +1,5 @@
 use Rattle.bits_core.proofs.BitwiseLaws.{cat_by_append, slice_by_take, cut_by_take, widen_by_zeros, widen_by_sign}
-use Rattle.bits_core.proofs.laws.wires_move_bits.Goals as goal
+use Rattle.bits_core.proofs.laws.circuits.wires_move_bits.Goals as goal
 
 pub returns-clause-join : goal.returns-clause-join
 returns-clause-join c = cat_by_append

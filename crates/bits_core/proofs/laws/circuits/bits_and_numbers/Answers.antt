@@ -1,5 +1,5 @@
 use Rattle.bits_core.proofs.BitListLaws.{number_of_bits_of, bits_of_number_of, bit_at_number_of}
-use Rattle.bits_core.proofs.laws.bits_and_numbers.Goals as goal
+use Rattle.bits_core.proofs.laws.circuits.bits_and_numbers.Goals as goal
 
 pub returns-clause-number : goal.returns-clause-number
 returns-clause-number c = number_of_bits_of

@@ -1,5 +1,5 @@
 use Rattle.bits_core.proofs.SaturationLaws.{add_or_end, subtract_or_zero, add_signed_or_end, subtract_signed_or_end}
-use Rattle.bits_core.proofs.laws.saturating_adders_stop.Goals as goal
+use Rattle.bits_core.proofs.laws.circuits.saturating_adders_stop.Goals as goal
 
 pub returns-clause-sum : goal.returns-clause-sum
 returns-clause-sum c = add_or_end

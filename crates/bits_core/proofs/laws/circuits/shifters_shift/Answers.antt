@@ -1,5 +1,5 @@
 use Rattle.bits_core.proofs.ShifterLaws.{shift_left_by_barrel, shift_right_by_barrel, shift_right_signed_by_barrel, get_or_shifted_left, get_or_shifted_right}
-use Rattle.bits_core.proofs.laws.shifters_shift.Goals as goal
+use Rattle.bits_core.proofs.laws.circuits.shifters_shift.Goals as goal
 
 pub returns-clause-left : goal.returns-clause-left
 returns-clause-left c = shift_left_by_barrel

@@ -1,5 +1,5 @@
 use Rattle.bits_core.proofs.ComparatorLaws.{equal_by_bits, less_by_ripple, less_by_sign_turned, less_equal_by_sign_turned}
-use Rattle.bits_core.proofs.laws.comparators_compare.Goals as goal
+use Rattle.bits_core.proofs.laws.circuits.comparators_compare.Goals as goal
 
 pub returns-clause-equal : goal.returns-clause-equal
 returns-clause-equal c = equal_by_bits
