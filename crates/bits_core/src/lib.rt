@@ -34,6 +34,3 @@ pub use number::Bits;
 pub use operator::{OPERATORS, Op, OpRow, OpShape, Table};
 pub use parts::{extend, slice};
 pub use points::{BitsList, Point};
-
-#[cfg(test)]
-mod tests;

@@ -1,4 +1,4 @@
-// Values, a width, whether the sign is kept, and the value at that width. Written by scripts/operator_table.py.
+//! Values, a width, whether the sign is kept, and the value at that width. Written by scripts/operator_table.py.
 use super::*;
 
 pub(super) const TABLE_EXTENSIONS: [ExtensionCase; 144] = extension_cases! {

@@ -1,4 +1,4 @@
-// Operators, their operands and their results, each as its width and its value. Written by scripts/operator_table.py.
+//! Operators, their operands and their results, each as its width and its value. Written by scripts/operator_table.py.
 use super::*;
 
 pub(super) const TABLE_BITWISE: [OperatorCase; 170] = operator_cases! {

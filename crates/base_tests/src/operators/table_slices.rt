@@ -1,4 +1,4 @@
-// Values, the ends of a slice, and the slice. Written by scripts/operator_table.py.
+//! Values, the ends of a slice, and the slice. Written by scripts/operator_table.py.
 use super::*;
 
 pub(super) const TABLE_SLICES: [SliceCase; 26] = slice_cases! {
