@@ -12,7 +12,7 @@ mod resolution;
 mod v1model;
 
 pub use bounds::{Bounds, MAX_BUDGET, MAX_BYTES, MAX_ENTRIES, MAX_STEPS};
-pub use input::{Bytes, Input, MAX_PORT, bounded};
+pub use input::{Bytes, Input, MAX_PORT, OPENING_BYTES, bounded};
 pub use program::{MAX_STATEMENTS, Program, Statement, StatementKind};
 pub use resolution::{Resolution, Resolutions};
 pub use v1model::{Block, DROP_PORT, EgressSpec, PORT_END};
