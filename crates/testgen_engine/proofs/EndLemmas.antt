@@ -1,9 +1,5 @@
 -- Lemmas on how a call may end.
-use Rattle.std.proofs.Common.{◌≡◌, ℕ, ◌*◌, ◌<◌, ◌≤◌, List, [], ◌∷◌, ◌++◌, Option, None, Some, Result, Ok, Err, IfOk, length, take, inl, inr, refl, ap, sym, ◌∙◌, subst, arith, length-append, length-take}
-use Rattle.std.proofs.lemmas.Fmt.{length-decimal-le}
-use Rattle.std.proofs.lemmas.List.{take_all}
-use Rattle.std.specs.Fmt.{decimal}
-use Rattle.std.specs.List.{flat_map, AllByRecursion}
+use Rattle.std.proofs.Common.{◌≡◌, ℕ, ◌<◌, List, [], ◌∷◌, Option, None, Some, Result, Ok, Err, IfOk, length, take, inl, inr, refl, ap, sym, ◌∙◌, subst, arith, lit<}
 use Rattle.std.specs.Prelude.{codes}
 use Rattle.std.specs.Result.{MatchResult}
 use Rattle.tg_base.specs.declared.desk.DeskFault.{DeskFault}
@@ -16,13 +12,13 @@ use Rattle.p4_program.specs.declared.bounds.Bounds.{Bounds}
 use Rattle.testgen_engine.specs.Decide.{findings}
 use Rattle.testgen_engine.specs.declared.decide.Decided.{Decided}
 use Rattle.p4_program.specs.declared.program.Program.{Program}
-use Rattle.p4_program.specs.declared.program.StatementKind.{StatementKind}
-use Rattle.p4_program.specs.declared.program.StatementKind.TheVariants.{AssignEgressSpec, MarkToDrop}
-use Rattle.testgen_engine.specs.Endings.{HasFile, IsFound, Finishes, Ends, EndsSomehow, IsCutShort, Completes, RefusesWhole, not_built}
+use Rattle.testgen_engine.specs.Endings.{HasFile, IsFound, Finishes, Ends, EndsSomehow, IsCutShort, Completes, RefusesWhole}
 use Rattle.testgen_engine.specs.Findings.{AreRight, IsUndecided, text_of}
 use Rattle.testgen_engine.specs.Notes.{usage_note, read_fault_note, refusal_note}
 use Rattle.testgen_engine.specs.Outputs.{Adds, AddsFronts, AddsText, AddsTextFront, Writes, WritesText, only}
-use Rattle.testgen_engine.specs.Skeleton.{head_text, tail_text, assign_text, drop_text, end_text, line_text, FitsNineBits, StandsFor, IsNotBuilt}
+use Rattle.tg_base.specs.declared.place.Refusal.{Refusal}
+use Rattle.testgen_engine.proofs.SkeletonLemmas.{built_short, accepted_whole, refused_whole}
+use Rattle.testgen_engine.specs.Skeleton.{StandsFor, IsRefused}
 use Rattle.testgen_engine.specs.Status.{status_of, Ended}
 use Rattle.testgen_engine.specs.declared.generate.Status.{Status}
 use Rattle.testgen_engine.specs.declared.generate.Status.TheVariants.{Done}
@@ -35,45 +31,10 @@ adds_map old new P Q f h = record { text = h.text; adds = h.adds; right = f h.te
 pub fronts_map : (old new : Out → Option (List ℕ)) (P Q : (Out → List ℕ) → Type 0) → ((text : Out → List ℕ) → P text → Q text) → AddsTextFront old new P → AddsTextFront old new Q
 fronts_map old new P Q f h = record { text = h.text; adds = h.adds; right = f h.text h.right }
 
--- the lines of a statement have at most 30 characters
-line_short : (kind : StatementKind) → FitsNineBits kind → length (line_text kind) ≤ 30
-unfolding assign_text drop_text end_text
-line_short (AssignEgressSpec value) fits =
-    let number = length-decimal-le 3 value (omega arith) (omega arith) (omega arith) in
-    let small : length (assign_text ++ (decimal value ++ end_text)) ≤ 30 = omega (arith, length-append assign_text (decimal value ++ end_text), length-append (decimal value) end_text) in
-    small
-line_short MarkToDrop fits = omega arith
-
-lines_short : (kinds : List StatementKind) → AllByRecursion FitsNineBits kinds → length (flat_map line_text kinds) ≤ 30 * length kinds
-lines_short [] fits = omega arith
-lines_short (kind ∷ kinds) fits = omega (arith, length-append (line_text kind) (flat_map line_text kinds), line_short kind fits.0, lines_short kinds fits.1)
-
-frame_short : (length head_text ≤ 1000) × (length tail_text ≤ 1000)
-unfolding head_text tail_text
-frame_short = (omega arith, omega arith)
-
--- a source that is built is short
-built_short : (bytes : List ℕ) (p : Program) → StandsFor bytes p → length bytes ≤ 3000
-built_short bytes p s =
-    let lines = lines_short s.kinds s.fit in
-    let few = s.few in
-    omega (arith, ap length s.text, length-append head_text (flat_map line_text s.kinds ++ tail_text), length-append (flat_map line_text s.kinds) tail_text, frame_short)
-
 -- a source that was built is shorter than what may be taken
 pub short_done : {S E : Type 0} (r : Result S E) (P : S → Type 0) (source : List ℕ) (p : Program) → StandsFor source p → IfOk r (λ s. P s → length source < 262145)
 short_done (Ok s) P source p stands = λ done. omega (arith, built_short source p stands)
 short_done (Err e) P source p stands = tt
-
--- so what is taken of a file tells whether it is one
-pub refused_whole : (source whole : List ℕ) → source ≡ take 262145 whole → IsNotBuilt source → IsNotBuilt whole
-refused_whole source whole e none p s =
-    let short = built_short whole p s in
-    none p (subst (λ bytes. StandsFor bytes p) (sym (e ∙ take_all 262145 whole (omega arith))) s)
-
-pub accepted_whole : (source whole : List ℕ) (p : Program) → source ≡ take 262145 whole → StandsFor source p → StandsFor whole p
-accepted_whole source whole p e s =
-    let short : length whole ≤ 262145 = omega (arith, built_short source p s, ap length e, length-take 262145 whole) in
-    subst (λ bytes. StandsFor bytes p) (e ∙ take_all 262145 whole short) s
 
 -- what was found of the file's program is a finish
 pub found_finishes : (files : Option (List ℕ → Option (List ℕ))) (words : List (List ℕ)) (name whole : List ℕ) (p : Program) → AsksGen words name → HasFile files name whole → StandsFor whole p
@@ -103,7 +64,7 @@ pub answer_found : (old new : Out → Option (List ℕ)) (files : Option (List �
     → (r : Result Status DeskFault) → IfOk r (λ s. s ≡ Done) → WritesText old new (IsFound p) r
     → Ended files words before now old new r
 answer_found old new files words name whole source before now p asks has e stands r told writes =
-    let finishes = found_finishes files words name whole p asks has (accepted_whole source whole p e stands) in
+    let finishes = found_finishes files words name whole p asks has (accepted_whole 262145 source whole p (lit< tt) e stands) in
     match_told (λ status. AddsText old new (Ends files words before now (status_of status))) r Done told writes
     (adds_map old new (IsFound p) (Ends files words before now 0) (λ text f. inl (finishes text f)))
     (elim [
@@ -129,15 +90,16 @@ told_note old new files words before now note status end r told writes =
     (λ h. inr (note_front old new note (EndsSomehow files words before now) (status_of status, end) h))
 
 -- the notes of a refusal, of wrong words and of a read fault are ends
-pub refused_end : (files : Option (List ℕ → Option (List ℕ))) (words : List (List ℕ)) (name whole source : List ℕ) (before now : ℕ) → AsksGen words name → HasFile files name whole → source ≡ take 262145 whole → IsNotBuilt source
-    → Ends files words before now 2 (only out.Notes (refusal_note not_built))
-refused_end files words name whole source before now asks has e none = inr (inr (inl (record {
+pub refused_end : (files : Option (List ℕ → Option (List ℕ))) (words : List (List ℕ)) (name whole source : List ℕ) (before now : ℕ) (refusal : Refusal) → AsksGen words name → HasFile files name whole → source ≡ take 262145 whole → IsRefused source refusal
+    → Ends files words before now 2 (only out.Notes (refusal_note refusal))
+refused_end files words name whole source before now refusal asks has e none = inr (inr (inl (record {
   ended = refl;
   name = name;
   asks = asks;
   bytes = whole;
   source = has;
-  refused = refused_whole source whole e none;
+  refusal = refusal;
+  refused = refused_whole 262145 source whole refusal (lit< tt) e none;
   texts = λ o. refl;
 })))
 
@@ -196,7 +158,7 @@ completes_from (Some files) words rb rn wb wn status old new h = λ name bytes p
     elim h.right [
       | inl finishes ↦ elim finishes.ended [ inl zero ↦ inl zero | inr three ↦ inr (inl three) ]
       | inr (inl misspells) ↦ absurd (misspells.asks name asks)
-      | inr (inr (inl refuses)) ↦ absurd (refuses.refused p (subst (λ bs. StandsFor bs p) (same_bytes files words name refuses.name bytes refuses.bytes asks refuses.asks has refuses.source) stands))
+      | inr (inr (inl refuses)) ↦ absurd (refuses.refused.no_program p (subst (λ bs. StandsFor bs p) (same_bytes files words name refuses.name bytes refuses.bytes asks refuses.asks has refuses.source) stands))
       | inr (inr (inr fails)) ↦ absurd (no_read fails.rose)
     ]
 
@@ -204,9 +166,9 @@ completes_from (Some files) words rb rn wb wn status old new h = λ name bytes p
 pub refuses_from : (files : Option (List ℕ → Option (List ℕ))) (words : List (List ℕ)) (reads_before reads_now writes_before writes_now status : ℕ) (old new : Out → Option (List ℕ))
     → AddsText old new (Ends files words reads_before reads_now status) → RefusesWhole files words reads_before reads_now writes_before writes_now status
 refuses_from None words rb rn wb wn status old new h = tt
-refuses_from (Some files) words rb rn wb wn status old new h = λ name bytes asks has none no_read no_write.
+refuses_from (Some files) words rb rn wb wn status old new h = λ name bytes refusal asks has none no_read no_write.
     elim h.right [
-      | inl finishes ↦ absurd (none finishes.findings.program (subst (λ bs. StandsFor bs finishes.findings.program) (same_bytes files words finishes.name name finishes.bytes bytes finishes.asks asks finishes.source has) finishes.program))
+      | inl finishes ↦ absurd (none.no_program finishes.findings.program (subst (λ bs. StandsFor bs finishes.findings.program) (same_bytes files words finishes.name name finishes.bytes bytes finishes.asks asks finishes.source has) finishes.program))
       | inr (inl misspells) ↦ absurd (misspells.asks name asks)
       | inr (inr (inl refuses)) ↦ inl refuses.ended
       | inr (inr (inr fails)) ↦ absurd (no_read fails.rose)

@@ -1,5 +1,5 @@
 -- Lemmas on reading a file in pieces.
-use Rattle.std.proofs.Common.{◌≡◌, ℕ, ◌+◌, ◌-◌, ◌≤◌, Bool, List, [], ◌∷◌, ◌++◌, Option, None, Some, length, take, drop, inr, refl, ap, sym, ◌∙◌, subst, arith, append-nil, Result, Ok, Err, IfOk, IfSome}
+use Rattle.std.proofs.Common.{◌≡◌, ℕ, ◌+◌, ◌-◌, ◌≤◌, Bool, List, [], ◌∷◌, ◌++◌, Option, None, Some, length, take, drop, refl, ap, sym, ◌∙◌, subst, arith, append-nil, Result, Ok, Err, IfOk, IfSome}
 use Rattle.std.proofs.Math.Seq.{drop-append_seam, drop-append-add}
 use Rattle.std.proofs.lemmas.List.{take_all, take-append-le}
 use Rattle.tg_base.specs.Content.{OpensAtStart}

@@ -3,14 +3,13 @@ use Rattle.std.specs.Prelude.{◌≡◌, ◌↔◌, ◌⊎◌, ℕ, List, ◌++�
 use Rattle.tg_base.specs.Faults.{Rose}
 use Rattle.tg_base.specs.declared.desk.Out.{Out}
 use Rattle.tg_base.specs.declared.desk.Out.TheVariants.{Notes}
-use Rattle.tg_base.specs.declared.place.Code.TheVariants.{NotBuilt}
 use Rattle.tg_base.specs.declared.place.Refusal.{Refusal}
 use Rattle.p4_program.specs.declared.program.Program.{Program}
 use Rattle.p4_program.specs.Bounds.{IsDefault}
 use Rattle.testgen_engine.specs.Findings.{Findings, AreRight, IsUndecided, text_of}
 use Rattle.testgen_engine.specs.Notes.{usage_note, read_fault_note, refusal_note}
 use Rattle.testgen_engine.specs.Outputs.{AddsNothing, AddsTextFront, only}
-use Rattle.testgen_engine.specs.Skeleton.{StandsFor, IsNotBuilt}
+use Rattle.testgen_engine.specs.Skeleton.{StandsFor, IsRefused}
 use Rattle.testgen_engine.specs.Words.{AsksGen, AsksNothing}
 
 -- where the desk tells its files, the file of this name has these bytes
@@ -50,19 +49,16 @@ pub record Misspells (words : List (List ℕ)) (status : ℕ) (text : Out → Li
   pub asks : AsksNothing words
   pub texts : (out : Out) → text out ≡ only Notes usage_note out
 
--- where a source that is not built is refused
-abbrev pub not_built : Refusal
-not_built = record { code = NotBuilt; line = 1; column = 1 }
-
--- the named file's bytes are a source of no program, and the refusal is told
+-- the named file's bytes are refused so, and that is told
 pub record Refuses (files : Option (List ℕ → Option (List ℕ))) (words : List (List ℕ)) (status : ℕ) (text : Out → List ℕ) : Type 0 where
   pub ended : status ≡ 2
   pub name : List ℕ
   pub asks : AsksGen words name
   pub bytes : List ℕ
   pub source : HasFile files name bytes
-  pub refused : IsNotBuilt bytes
-  pub texts : (out : Out) → text out ≡ only Notes (refusal_note not_built) out
+  pub refusal : Refusal
+  pub refused : IsRefused bytes refusal
+  pub texts : (out : Out) → text out ≡ only Notes (refusal_note refusal) out
 
 -- an open or a read failed, as the desk has counted between these moments, and that is told
 pub record FailsToRead (words : List (List ℕ)) (before now : ℕ) (status : ℕ) (text : Out → List ℕ) : Type 0 where
@@ -100,10 +96,10 @@ Completes (Some files) words reads_before reads_now writes_before writes_now sta
     → (Rose reads_before reads_now → ⊥) → (Rose writes_before writes_now → ⊥)
     → (status ≡ 0) ⊎ ((status ≡ 3) ⊎ (status ≡ 6))
 
--- And where the file is a source of no program, the call refuses it, or wants memory.
+-- And where the file is refused, the call refuses it, or wants memory.
 abbrev pub RefusesWhole : Option (List ℕ → Option (List ℕ)) → List (List ℕ) → ℕ → ℕ → ℕ → ℕ → ℕ → Type 0
 RefusesWhole None words reads_before reads_now writes_before writes_now status = Unit {0}
 RefusesWhole (Some files) words reads_before reads_now writes_before writes_now status =
-    (name bytes : List ℕ) → AsksGen words name → files name ≡ Some bytes → IsNotBuilt bytes
+    (name bytes : List ℕ) (refusal : Refusal) → AsksGen words name → files name ≡ Some bytes → IsRefused bytes refusal
     → (Rose reads_before reads_now → ⊥) → (Rose writes_before writes_now → ⊥)
     → (status ≡ 2) ⊎ (status ≡ 6)

@@ -3,7 +3,7 @@
 ghost use Rattle.std.specs.Prelude.{◌≡◌, ◌<◌, ◌≤◌, ◌⊎◌, ℕ, List, [], ◌∷◌, Option, length, take, IfOk, map, string_bytes};
 ghost use Rattle.tg_base.specs.declared.desk.Out.TheVariants as out;
 ghost use Rattle.tg_base.specs.Faults.{HasCause};
-ghost use Rattle.testgen_engine.specs.Endings.{HasFile, AsksFront, IsFound, not_built};
+ghost use Rattle.testgen_engine.specs.Endings.{HasFile, AsksFront, IsFound};
 ghost use Rattle.testgen_engine.specs.Keeps.{KeepsReading};
 ghost use Rattle.testgen_engine.specs.Notes.{usage_note, read_fault_note, refusal_note};
 ghost use Rattle.testgen_engine.specs.Outputs.{Writes, WritesText, only};
@@ -20,7 +20,7 @@ use crate::words::source_name;
 use p4_program::{Bounds, Program};
 use std::alloc::{AllocError, Global};
 use std::default::Default;
-use tg_base::{Code, Desk, DeskFault, Out, Refusal};
+use tg_base::{Desk, DeskFault, Out, Refusal};
 
 /// How a call ends.
 #[derive(Clone, Copy, Debug, PartialEq, Eq)]
@@ -65,21 +65,16 @@ fn write_refusal(alloc: Global, refusal: Refusal) -> Result<String, AllocError>
     format!(in alloc; "refused {number} {name} at {line}:{column}\n")
 }
 
-/// Tells that a source is not built.
+/// Tells how a source is refused.
 #[tactic(auto, using(crate::proofs::OutputLemmas::writes_nothing))]
-fn refuse<D: Desk>(alloc: Global, desk: &mut D) -> Result<Status, DeskFault>
+fn refuse<D: Desk>(alloc: Global, desk: &mut D, refusal: Refusal) -> Result<Status, DeskFault>
     ensures told { IfOk result (λ status. status ≡ Status.Refused) }
     ensures writes { Writes (D.written desk.old) (D.written desk.new)
-        (only out.Notes (refusal_note not_built)) result }
+        (only out.Notes (refusal_note refusal)) result }
     ensures cause { HasCause (D.write_faults desk.old) (D.write_faults desk.new) result }
     ensures stays { KeepsReading D.files D.rest D.readable D.asked D.read_faults
         desk.old desk.new }
 {
-    let refusal = Refusal {
-        code: Code::NotBuilt,
-        line: 1,
-        column: 1,
-    };
     let text = write_refusal(alloc, refusal)?;
     write_all(desk, Out::Notes, text.as_bytes())?;
     Ok(Status::Refused)
@@ -112,8 +107,8 @@ fn answer<D: Desk>(alloc: Global, desk: &mut D, source: &[u8]) -> Result<Status,
         desk.old desk.new }
 {
     match program_of(alloc, source)? {
-        Some(program) => finish(alloc, desk, &program),
-        None => refuse(alloc, desk),
+        Ok(program) => finish(alloc, desk, &program),
+        Err(refusal) => refuse(alloc, desk, refusal),
     }
 }
 

@@ -21,9 +21,9 @@ pub returns-in_err-print_test-clause-writes : goal.returns-in_err-print_test-cla
 returns-in_err-print_test-clause-writes g c =
     let kept = c.loop-index.invariant in
     let t : Test = c.index-tests-index.result in
-    let go_on = tests_go_on c.args.verdicts.now c.args.tests.now c.loop-index.index t c.loop-index-test.true c.index-tests-index.is in
+    let go_on = tests_go_on c.args.program.now c.args.verdicts.now c.args.tests.now c.loop-index.index t c.loop-index-test.true c.index-tests-index.is in
     writes_fronts _ _ _ c.from_residual.result c.from_residual.ensures.0
-    (fronts_more _ _ _ (λ o. tests_text c.args.verdicts.now (suc (c.loop-index.index + 1)) (drop (c.loop-index.index + 1) c.args.tests.now) o) _
+    (fronts_more _ _ _ (λ o. tests_text c.args.program.now c.args.verdicts.now (suc (c.loop-index.index + 1)) (drop (c.loop-index.index + 1) c.args.tests.now) o) _
     (fronts_after _ _ _ kept.done.0 _ kept.done.2 c.in_err-print_test.ensures.writes)
     (λ o. append_assoc (kept.done.0 o) _ _ ∙ ap (λ xs. kept.done.0 o ++ xs) (sym (go_on o)) ∙ kept.done.1 o))
 
@@ -31,8 +31,8 @@ pub loop-index-preserved : goal.loop-index-preserved
 loop-index-preserved g c =
     let kept = c.loop-index.invariant in
     let t : Test = c.index-tests-index.result in
-    let go_on = tests_go_on c.args.verdicts.now c.args.tests.now c.loop-index.index t c.loop-index-test.true c.index-tests-index.is in
-    let one = only (out.Test (c.loop-index.index + 1)) (test_text (c.loop-index.index + 1) (credits c.args.verdicts.now (c.loop-index.index + 1)) t) in
+    let go_on = tests_go_on c.args.program.now c.args.verdicts.now c.args.tests.now c.loop-index.index t c.loop-index-test.true c.index-tests-index.is in
+    let one = only (out.Test (c.loop-index.index + 1)) (test_text c.args.program.now (c.loop-index.index + 1) (credits c.args.verdicts.now (c.loop-index.index + 1)) t) in
     record {
       done = (λ o. kept.done.0 o ++ one o, λ o. append_assoc (kept.done.0 o) _ _ ∙ ap (λ xs. kept.done.0 o ++ xs) (sym (go_on o)) ∙ kept.done.1 o, adds_both _ _ _ kept.done.0 one kept.done.2 c.in_ok-print_test.ensures.writes);
       count = omega arith;

@@ -11,7 +11,7 @@ invariant-loop-index g l =
     let desk = g.D.Desk in
     record {
       done : (text : Out → List ℕ)
-          × ((o : Out) → text o ++ tests_text l.verdicts (suc l.index) (drop l.index l.tests) o ≡ tests_text l.verdicts 1 l.tests o)
+          × ((o : Out) → text o ++ tests_text l.program l.verdicts (suc l.index) (drop l.index l.tests) o ≡ tests_text l.program l.verdicts 1 l.tests o)
           × Adds (desk.written l.initial.desk) (desk.written l.desk) text;
       count : desk.write_faults l.initial.desk ≤ desk.write_faults l.desk;
       stays : KeepsReading desk.files desk.rest desk.readable desk.asked desk.read_faults l.initial.desk l.desk;
