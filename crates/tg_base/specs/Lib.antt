@@ -1,9 +1,4 @@
-pub mod Calls
-pub mod CalmDesk
+pub mod Answer
 pub mod Code
-pub mod Content
 pub mod Faults
-pub mod MemDesk
-pub mod OpenFile
-pub mod Outputs
-pub mod Session
+pub mod Moment

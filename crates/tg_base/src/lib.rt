@@ -1,24 +1,11 @@
-//! What every crate stands on: places in a source, the codes of refusals, and the desk through
-//! which the generator reads sources and writes tests.
-//!
-//! The trait [`Desk`] says in its clauses all that the layers above may rely on. [`MemDesk`] and
-//! [`CalmDesk`] keep files and outputs in memory. The desk over real files is the program's.
+//! What every crate stands on.
 #![tactic(auto)]
 
-mod calls;
-mod calm_desk;
 mod desk;
-mod mem_desk;
-mod open_file;
-mod outputs;
+pub mod laws;
 mod place;
-mod session;
-#[cfg(test)]
-mod tests;
 
-pub use calm_desk::CalmDesk;
 pub use desk::{Desk, DeskFault, Out};
-pub use mem_desk::MemDesk;
 pub use place::{Code, Refusal, Span};
 use sqlite_items::Items;
 
