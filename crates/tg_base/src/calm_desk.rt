@@ -31,7 +31,8 @@ impl CalmDesk {
         ensures asked { (⟦<CalmDesk as Desk>⟧.moment result).asked ≡ [] }
         ensures opened { (⟦<CalmDesk as Desk>⟧.moment result).opened ≡ [] }
         ensures readable { (⟦<CalmDesk as Desk>⟧.moment result).readable ≡ false }
-        ensures outputs { (out : Out) → (⟦<CalmDesk as Desk>⟧.moment result).outputs out ≡ filled [] }
+        ensures outputs { (out : Out) → (⟦<CalmDesk as Desk>⟧.moment result).outputs out
+            ≡ filled [] }
         ensures read_faults { (⟦<CalmDesk as Desk>⟧.moment result).read_faults ≡ 0 }
         ensures write_faults { (⟦<CalmDesk as Desk>⟧.moment result).write_faults ≡ 0 }
     {
@@ -57,16 +58,18 @@ impl Desk for CalmDesk {
     ghost moment = { moment_of };
 
     fn open(&mut self, name: &str) -> Result<(), DeskFault>
-        ensures opened { OnOk result
-            ((moment_of self.new).opened ≡ (moment_of self.old).opened ++ just_opened name.now ∷ []) }
+        ensures opened { OnOk result ((moment_of self.new).opened
+            ≡ (moment_of self.old).opened ++ just_opened name.now ∷ []) }
         ensures left { OnOk result (files_of self.old name.now ≡ Some (left_in self.new)) }
-        ensures readable { (moment_of self.new).readable ≡ (is_ok result || (moment_of self.old).readable) }
+        ensures readable { (moment_of self.new).readable
+            ≡ (is_ok result || (moment_of self.old).readable) }
         ensures asked { (moment_of self.new).asked ≡ (if is_ok result
             then (moment_of self.old).asked ++ name.now ∷ [] else (moment_of self.old).asked) }
         ensures never_failed { result ≢ Err DeskFault.Failed }
 
         // What stays.
-        ensures opened_stays { OnErr result ((moment_of self.new).opened ≡ (moment_of self.old).opened) }
+        ensures opened_stays { OnErr result
+            ((moment_of self.new).opened ≡ (moment_of self.old).opened) }
         ensures left_stays { OnErr result (left_in self.new ≡ left_in self.old) }
         ensures stays { KeepsWriting (moment_of self.old) (moment_of self.new) }
     {
@@ -80,7 +83,8 @@ impl Desk for CalmDesk {
         requires room { 0 < length into.old }
         ensures never_fails { IsOk result }
         // It moves as much as there is and as fits.
-        ensures count { IfOk result (λ count. count ≡ min (length into.old) (length (left_in self.old))) }
+        ensures count { IfOk result (λ count. count
+            ≡ min (length into.old) (length (left_in self.old))) }
         ensures bytes { IfOk result (λ count. take count into.new ≡ take count (left_in self.old)) }
         ensures left { IfOk result (λ count. left_in self.new ≡ drop count (left_in self.old)) }
         ensures moved { IfOk result (λ count. (moment_of self.new).opened
@@ -103,7 +107,8 @@ impl Desk for CalmDesk {
         ensures never_failed { result ≢ Err DeskFault.Failed }
 
         // What stays.
-        ensures out_stays { OnErr result ((moment_of self.new).outputs out ≡ (moment_of self.old).outputs out) }
+        ensures out_stays { OnErr result
+            ((moment_of self.new).outputs out ≡ (moment_of self.old).outputs out) }
         ensures others_stay { (other : Out) → other ≢ out
             → (moment_of self.new).outputs other ≡ (moment_of self.old).outputs other }
         ensures stays { KeepsReading (moment_of self.old) (moment_of self.new) }
@@ -113,7 +118,7 @@ impl Desk for CalmDesk {
         Ok(piece.len())
     }
 
-    ghost tells_truly = { λ desk. tells_truly (files_of desk) (readings_of desk.session) desk.truly };
+    ghost tells_truly = { λ desk. tells_truly (files_of desk) _ desk.truly };
 }
 
 fn source_or_test<'a>(own: &str, source: &'a [u8], test: &'a [u8], name: &str) -> &'a [u8]

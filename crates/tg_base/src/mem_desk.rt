@@ -43,7 +43,8 @@ impl MemDesk {
         ensures asked { (⟦<MemDesk as Desk>⟧.moment result).asked ≡ [] }
         ensures opened { (⟦<MemDesk as Desk>⟧.moment result).opened ≡ [] }
         ensures readable { (⟦<MemDesk as Desk>⟧.moment result).readable ≡ false }
-        ensures outputs { (out : Out) → (⟦<MemDesk as Desk>⟧.moment result).outputs out ≡ filled [] }
+        ensures outputs { (out : Out) → (⟦<MemDesk as Desk>⟧.moment result).outputs out
+            ≡ filled [] }
         ensures read_faults { (⟦<MemDesk as Desk>⟧.moment result).read_faults ≡ 0 }
         ensures write_faults { (⟦<MemDesk as Desk>⟧.moment result).write_faults ≡ 0 }
 
@@ -75,21 +76,25 @@ impl Desk for MemDesk {
     ghost moment = { moment_of };
 
     fn open(&mut self, name: &str) -> Result<(), DeskFault>
-        ensures opened { OnOk result
-            ((moment_of self.new).opened ≡ (moment_of self.old).opened ++ just_opened name.now ∷ []) }
+        ensures opened { OnOk result ((moment_of self.new).opened
+            ≡ (moment_of self.old).opened ++ just_opened name.now ∷ []) }
         ensures left { OnOk result (files_of self.old name.now ≡ Some (left_in self.new)) }
-        ensures readable { (moment_of self.new).readable ≡ (is_ok result || (moment_of self.old).readable) }
-        ensures asked { (moment_of self.new).asked ≡ (if wants_memory result then (moment_of self.old).asked
+        ensures readable { (moment_of self.new).readable
+            ≡ (is_ok result || (moment_of self.old).readable) }
+        ensures asked { (moment_of self.new).asked
+            ≡ (if wants_memory result then (moment_of self.old).asked
             else (moment_of self.old).asked ++ name.now ∷ []) }
 
         // It fails where it is to fail, unless memory runs out.
         ensures ok { IfOk result (λ _. OpenFails self.old name.now → ⊥) }
         ensures failed { IsErrOf result DeskFault.Failed → OpenFails self.old name.now }
-        ensures faults { HasCause (moment_of self.old).read_faults (moment_of self.new).read_faults result }
+        ensures faults { HasCause (moment_of self.old).read_faults
+            (moment_of self.new).read_faults result }
         ensures reads { reads_so_far self.new ≡ counted (reads_so_far self.old) }
 
         // What stays.
-        ensures opened_stays { OnErr result ((moment_of self.new).opened ≡ (moment_of self.old).opened) }
+        ensures opened_stays { OnErr result
+            ((moment_of self.new).opened ≡ (moment_of self.old).opened) }
         ensures left_stays { OnErr result (left_in self.new ≡ left_in self.old) }
         ensures stays { KeepsWriting (moment_of self.old) (moment_of self.new) }
         ensures writes_stay { writes_so_far self.new ≡ writes_so_far self.old }
@@ -114,23 +119,27 @@ impl Desk for MemDesk {
         requires readable { IsTrue (moment_of self.old).readable }
         requires room { 0 < length into.old }
         // It moves as much as there is and as fits.
-        ensures count { IfOk result (λ count. count ≡ min (length into.old) (length (left_in self.old))) }
+        ensures count { IfOk result (λ count. count
+            ≡ min (length into.old) (length (left_in self.old))) }
         ensures bytes { IfOk result (λ count. take count into.new ≡ take count (left_in self.old)) }
         ensures left { IfOk result (λ count. left_in self.new ≡ drop count (left_in self.old)) }
         ensures moved { IfOk result (λ count. (moment_of self.new).opened
             ≡ after_read (moment_of self.old).opened (take count into.new)) }
         ensures behind { IfOk result (λ count. drop count into.new ≡ drop count into.old) }
-        ensures readable { MatchResult result (λ count. (moment_of self.new).readable ≡ nat_lt 0 count)
+        ensures readable { MatchResult result
+            (λ count. (moment_of self.new).readable ≡ nat_lt 0 count)
             (λ _. (moment_of self.new).readable ≡ false) }
 
         // It fails exactly where it is to fail, and wants no memory.
         ensures failed { IsErrOf result DeskFault.Failed ↔ ReadFails self.old }
         ensures no_memory { result ≢ Err DeskFault.Memory }
-        ensures faults { HasCause (moment_of self.old).read_faults (moment_of self.new).read_faults result }
+        ensures faults { HasCause (moment_of self.old).read_faults
+            (moment_of self.new).read_faults result }
         ensures reads { reads_so_far self.new ≡ counted (reads_so_far self.old) }
 
         // What stays.
-        ensures opened_stays { OnErr result ((moment_of self.new).opened ≡ (moment_of self.old).opened) }
+        ensures opened_stays { OnErr result
+            ((moment_of self.new).opened ≡ (moment_of self.old).opened) }
         ensures left_stays { OnErr result (left_in self.new ≡ left_in self.old) }
         ensures into_stays { OnErr result (into.new ≡ into.old) }
         ensures asked_stays { (moment_of self.new).asked ≡ (moment_of self.old).asked }
@@ -155,11 +164,13 @@ impl Desk for MemDesk {
 
         // It fails exactly where it is to fail, unless memory runs out.
         ensures failed { IsErrOf result DeskFault.Failed ↔ WriteFails self.old }
-        ensures faults { HasCause (moment_of self.old).write_faults (moment_of self.new).write_faults result }
+        ensures faults { HasCause (moment_of self.old).write_faults
+            (moment_of self.new).write_faults result }
         ensures writes { writes_so_far self.new ≡ counted (writes_so_far self.old) }
 
         // What stays.
-        ensures out_stays { OnErr result ((moment_of self.new).outputs out ≡ (moment_of self.old).outputs out) }
+        ensures out_stays { OnErr result
+            ((moment_of self.new).outputs out ≡ (moment_of self.old).outputs out) }
         ensures others_stay { (other : Out) → other ≢ out
             → (moment_of self.new).outputs other ≡ (moment_of self.old).outputs other }
         ensures stays { KeepsReading (moment_of self.old) (moment_of self.new) }
@@ -176,7 +187,7 @@ impl Desk for MemDesk {
         Ok(piece.len())
     }
 
-    ghost tells_truly = { λ desk. tells_truly (files_of desk) (readings_of desk.session) desk.truly };
+    ghost tells_truly = { λ desk. tells_truly (files_of desk) _ desk.truly };
 }
 
 fn file_named<'a>(files: &'a [(String, Vec<u8>)], name: &str) -> Option<&'a [u8]>

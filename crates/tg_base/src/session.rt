@@ -1,4 +1,4 @@
-//! What the desks in memory share: the names asked for, the files that were opened, and the outputs.
+//! What the desks in memory share: the names asked for, the files that were opened, the outputs.
 ghost use Rattle.std.specs.Prelude.{◌≡◌, ◌≢◌, ◌++◌, [], ◌∷◌, ℕ, ◌<◌, List, Option, Some, min, take, drop, length, nat_lt, false, IsTrue, OnOk, OnErr};
 ghost use Rattle.tg_base.specs.Moment.{after_read};
 ghost use Rattle.tg_base.specs.Outputs.{bytes_at};
@@ -84,7 +84,8 @@ impl Session {
         ensures count { result ≡ min (length into.old) (length (rest_of self.old)) }
         ensures bytes { take result into.new ≡ take result (rest_of self.old) }
         ensures left { rest_of self.new ≡ drop result (rest_of self.old) }
-        ensures moved { opened_of self.new ≡ after_read (opened_of self.old) (take result into.new) }
+        ensures moved { opened_of self.new
+            ≡ after_read (opened_of self.old) (take result into.new) }
         ensures behind { drop result into.new ≡ drop result into.old }
         ensures readable { is_readable self.new ≡ nat_lt 0 result }
         ensures told { (files : List ℕ → Option (List ℕ)) → 0 < length into.old
@@ -105,7 +106,8 @@ impl Session {
         ensures readable { is_readable self.new ≡ false }
         ensures opened_stays { opened_of self.new ≡ opened_of self.old }
         ensures left_stays { rest_of self.new ≡ rest_of self.old }
-        ensures told { (files : List ℕ → Option (List ℕ)) → Tells files self.old → Tells files self.new }
+        ensures told { (files : List ℕ → Option (List ℕ))
+            → Tells files self.old → Tells files self.new }
         ensures asked_stays { self.new.asked ≡ self.old.asked }
         ensures outputs_stay { self.new.outputs ≡ self.old.outputs }
     {
@@ -117,7 +119,8 @@ impl Session {
     pub(crate) fn append(&mut self, out: Out, piece: &[u8]) -> Result<(), AllocError>
         ensures appended { OnOk result
             (bytes_at self.new.outputs out ≡ bytes_at self.old.outputs out ++ piece.now) }
-        ensures out_stays { OnErr result (bytes_at self.new.outputs out ≡ bytes_at self.old.outputs out) }
+        ensures out_stays { OnErr result
+            (bytes_at self.new.outputs out ≡ bytes_at self.old.outputs out) }
         ensures others_stay { (other : Out) → other ≢ out
             → bytes_at self.new.outputs other ≡ bytes_at self.old.outputs other }
         ensures stays { self.new ≡ record self.old { outputs = self.new.outputs } }
