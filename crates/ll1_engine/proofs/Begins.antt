@@ -1,6 +1,7 @@
 -- What derivations begin with is in FIRST; which lists derive the empty list; what follows the symbols of a row.
 use Rattle.std.proofs.Common.{◌≡◌, ℕ, Bool, true, false, ◌||◌, eqb, List, [], ◌∷◌, ◌++◌, Some, refl, sym, ap, ◌∙◌, subst, inl, inr, ◌⊎◌, append_assoc, zero, suc}
 use Rattle.std.proofs.lemmas.Bool.{eqb-true, eq-eqb, or_cases, or_left, or_right}
+use Rattle.std.specs.List.{AllByRecursion}
 use Rattle.ll1_engine.specs.declared.grammar.Row.{Row}
 use Rattle.ll1_engine.specs.Table.{IsRow, IsToken}
 use Rattle.ll1_engine.specs.Trees.{Trees, End, Leaf, Node, roots, leaves, AreTrees, Nullable}
@@ -32,6 +33,18 @@ Nullable-parts g xs ys n =
       record { trees = p.front; valid = p.front_valid; top = p.front_top; bottom = z.0; terminal = tt },
       record { trees = p.back; valid = p.back_valid; top = p.back_top; bottom = z.1; terminal = tt },
     )
+
+-- each symbol of the list is a token
+abbrev pub AreTokens : List Row → List ℕ → Type 0
+AreTokens g ts = AllByRecursion (IsToken g) ts
+
+pub AreTokens-append : (g : List Row) (xs ys : List ℕ) → AreTokens g xs → AreTokens g ys → AreTokens g (xs ++ ys)
+AreTokens-append g [] ys a b = b
+AreTokens-append g (x ∷ xs) ys a b = (a.0, AreTokens-append g xs ys a.1 b)
+
+pub AreTokens-parts : (g : List Row) (xs ys : List ℕ) → AreTokens g (xs ++ ys) → AreTokens g xs × AreTokens g ys
+AreTokens-parts g [] ys a = (tt, a)
+AreTokens-parts g (x ∷ xs) ys a = (let p = AreTokens-parts g xs ys a.1 in ((a.0, p.0), p.1))
 
 -- FIRST and FOLLOW are closed under their own rules
 pub InFirst-itself : (g : List Row) (t : ℕ) → IsToken g t → InFirst g t t

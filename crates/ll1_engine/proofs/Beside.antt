@@ -1,5 +1,5 @@
 -- Lists of trees side by side: what they derive, how they split, and which the ranks allow.
-use Rattle.std.proofs.Common.{◌≡◌, ℕ, List, [], ◌∷◌, ◌++◌, Option, refl, sym, ap, ◌∙◌, subst, append_assoc}
+use Rattle.std.proofs.Common.{◌≡◌, ℕ, ◌+◌, suc, arith, List, [], ◌∷◌, ◌++◌, Option, refl, sym, ap, ◌∙◌, subst, append_assoc}
 use Rattle.std.proofs.lemmas.Option.{same_Some}
 use Rattle.ll1_engine.specs.declared.grammar.Row.{Row}
 use Rattle.ll1_engine.specs.Table.{IsRow}
@@ -99,6 +99,17 @@ parts g (x ∷ xs) ys (Node k r c f) v e =
       front_top = (let i : r.left ≡ x = cc in let k : roots p.front ≡ xs = p.front_top in cc);
       back_top = p.back_top;
     }
+
+-- the nodes and leaves of the trees
+abbrev pub size : Trees → ℕ
+size End = 0
+size (Leaf x f) = suc (size f)
+size (Node k r c f) = suc (size c + size f)
+
+pub size-beside : (f h : Trees) → size (beside f h) ≡ size f + size h
+size-beside End h = omega arith
+size-beside (Leaf x f) h = (let e : size (beside f h) ≡ size f + size h = size-beside f h in omega arith)
+size-beside (Node k r c f) h = (let e : size (beside f h) ≡ size f + size h = size-beside f h in omega arith)
 
 -- a row is determined by its place
 pub same_row : (g : List Row) (k : ℕ) (r s : Row) → IsRow g k r → IsRow g k s → r ≡ s

@@ -43,7 +43,7 @@ one_first g good k j r s t h i left b c =
     ]
 
 -- a row that begins with t beside an empty row k, where t follows their symbol: the row has a rank
-rank_or_none : (n : ℕ) → (n ≡ 0) ⊎ (0 < n)
+pub rank_or_none : (n : ℕ) → (n ≡ 0) ⊎ (0 < n)
 rank_or_none n = grind arith
 
 pub nullable_beside_first : (g : List Row) (good : IsGood g) (k j : ℕ) (r s : Row) (t : ℕ) (choice : Option ℕ) → IsRow g k r → IsRow g j s → s.left ≡ r.left → Nullable g r.right → BeginsWith g s.right t → InFollow g r.left (Some t) → choice ≡ Some j → (choice ≡ Some k) ⊎ Yields g k r (Some t) choice

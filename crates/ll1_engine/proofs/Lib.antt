@@ -3,6 +3,7 @@ pub mod Begins
 pub mod Swap
 pub mod Choice
 pub mod Steps
+pub mod Allowed
 pub mod Stops
 pub mod Parsing
 pub mod MarkLaws

@@ -1,5 +1,5 @@
 -- The state of a parse, and how each step keeps it. The stack holds the symbols that are still to be derived.
-use Rattle.std.proofs.Common.{◌≡◌, ◌≢◌, ℕ, ◌<◌, List, [], ◌∷◌, ◌++◌, Option, None, Some, refl, sym, ap, ◌∙◌, subst, inl, inr, append_assoc}
+use Rattle.std.proofs.Common.{◌≡◌, ◌≢◌, ℕ, ◌+◌, ◌<◌, suc, arith, List, [], ◌∷◌, ◌++◌, Option, None, Some, refl, sym, ap, ◌∙◌, subst, inl, inr, append_assoc}
 use Rattle.ll1_engine.specs.declared.grammar.Row.{Row}
 use Rattle.ll1_engine.specs.declared.fault.Break.TheVariants.{Rank}
 use Rattle.ll1_engine.specs.Table.{IsRow, IsToken}
@@ -7,7 +7,7 @@ use Rattle.ll1_engine.specs.Trees.{Trees, End, Leaf, Node, roots, leaves, preord
 use Rattle.ll1_engine.specs.Conditions.{IsGood}
 use Rattle.ll1_engine.specs.Prediction.{Predicts}
 use Rattle.ll1_engine.specs.Parse.{first_or, TakesRank, RanksAllow}
-use Rattle.ll1_engine.proofs.Beside.{beside, roots-beside, leaves-beside, preorder-beside, AreTrees-beside, RanksAllow-beside, RanksAllow-parts, parts, same_row}
+use Rattle.ll1_engine.proofs.Beside.{beside, roots-beside, leaves-beside, preorder-beside, AreTrees-beside, size, size-beside, RanksAllow-beside, RanksAllow-parts, parts, same_row}
 use Rattle.ll1_engine.proofs.Begins.{Follows, Follows-row}
 use Rattle.ll1_engine.proofs.Swap.{Lacks, lacks_elsewhere, moved}
 use Rattle.ll1_engine.proofs.Choice.{Yields, choice_of, TakesRank-predicted}
@@ -18,6 +18,14 @@ pub record Spans (g : List Row) (xs ts : List ℕ) : Type 0 where
   pub valid : AreTrees g trees
   pub top : roots trees ≡ xs
   pub bottom : leaves trees ≡ ts
+
+-- and they have so many nodes and leaves
+pub record SpansIn (g : List Row) (xs ts : List ℕ) (n : ℕ) : Type 0 where
+  pub trees : Trees
+  pub valid : AreTrees g trees
+  pub top : roots trees ≡ xs
+  pub bottom : leaves trees ≡ ts
+  pub count : size trees ≡ n
 
 -- and they have these rows, and the ranks allow them
 pub record Ranked (g : List Row) (xs ts rows : List ℕ) : Type 0 where
@@ -100,7 +108,7 @@ Spans-below g k r c f xs ts v top l =
 
 module _ (g : List Row) (good : IsGood g) where
   -- the row with the rank in place of an empty row
-  pub Spans-swapped : (k : ℕ) (r : Row) (c f : Trees) (ts : List ℕ) (choice : Option ℕ) → AreTrees g (Node k r c f) → leaves c ++ leaves f ≡ ts → IsClean g (roots f) → (y : Yields g k r (first_or ts None) choice) → Spans g (y.s.right ++ roots f) ts
+  pub Spans-swapped : (k : ℕ) (r : Row) (c f : Trees) (ts : List ℕ) (choice : Option ℕ) → AreTrees g (Node k r c f) → leaves c ++ leaves f ≡ ts → IsClean g (roots f) → (y : Yields g k r (first_or ts None) choice) → SpansIn g (y.s.right ++ roots f) ts (size f)
   Spans-swapped k r End f [] choice v l clean y = absurd (let e : None ≡ Some y.token = y.stands in cc)
   Spans-swapped k r End f (t ∷ ts) choice v l clean y =
       let same : t ≡ y.token = (let e : Some t ≡ Some y.token = y.stands in cc) in
@@ -114,6 +122,7 @@ module _ (g : List Row) (good : IsGood g) where
         valid = AreTrees-beside g here.front here.back here.front_valid here.back_valid;
         top = ap (λ (ys : List ℕ). y.token ∷ ys) (roots-beside here.front here.back ∙ (ap (λ (ys : List ℕ). ys ++ roots here.back) here.front_top ∙ ap (λ (ys : List ℕ). y.rest ++ ys) here.back_top)) ∙ ap (λ (ys : List ℕ). ys ++ roots f) (sym y.begins);
         bottom = ap (λ (ys : List ℕ). y.token ∷ ys) (leaves-beside here.front here.back ∙ here.bottom) ∙ ap (λ (z : ℕ). z ∷ ts) (sym same);
+        count = (let e : suc (size here.front + size here.back) ≡ size f = here.count in let b : size (beside here.front here.back) ≡ size here.front + size here.back = size-beside here.front here.back in omega arith);
       }
   Spans-swapped k r (Leaf x c) f ts choice v l clean y = absurd (let e : x ∷ roots c ≡ [] = v.1 ∙ y.empty in cc)
   Spans-swapped k r (Node i q b c) f ts choice v l clean y = absurd (let e : q.left ∷ roots c ≡ [] = v.1 ∙ y.empty in cc)
@@ -137,7 +146,7 @@ module _ (g : List Row) (good : IsGood g) where
             let there : y.j ≡ k = (let e : Some k ≡ Some y.j = y.chosen in cc) in
             let one : y.s ≡ r = same_row g k y.s r (subst (λ (z : ℕ). IsRow g z y.s) there y.other.row) h in
             let s = Spans-swapped i q c f ts (Some k) v l (subst (IsClean g) (sym rest) clean) y in
-            subst (λ (z : Row). Spans g (z.right ++ xs) ts) one (subst (λ (zs : List ℕ). Spans g (y.s.right ++ zs) ts) rest s))
+            subst (λ (z : Row). Spans g (z.right ++ xs) ts) one (subst (λ (zs : List ℕ). Spans g (y.s.right ++ zs) ts) rest (record { trees = s.trees; valid = s.valid; top = s.top; bottom = s.bottom })))
       ]
 
   -- where the ranks allow the trees, they take it, and their other rows come after it
@@ -174,11 +183,11 @@ module _ (g : List Row) (good : IsGood g) where
   Lacks-append t [] ys a b = b
   Lacks-append t (x ∷ xs) ys a b = (a.0, Lacks-append t xs ys a.1 b)
 
-  Lacks-behind : (t : ℕ) (xs : List ℕ) → Lacks t xs → Lacks t (behind xs)
+  pub Lacks-behind : (t : ℕ) (xs : List ℕ) → Lacks t xs → Lacks t (behind xs)
   Lacks-behind t [] a = tt
   Lacks-behind t (x ∷ xs) a = a.1
 
-  clean_row : (j k : ℕ) (s r : Row) (t : ℕ) (rest ys xs : List ℕ) → IsRow g j s → 0 < s.rank → s.right ≡ t ∷ rest → IsRow g k r → r.right ≡ ys → Lacks t xs → Lacks t (behind (ys ++ xs))
+  pub clean_row : (j k : ℕ) (s r : Row) (t : ℕ) (rest ys xs : List ℕ) → IsRow g j s → 0 < s.rank → s.right ≡ t ∷ rest → IsRow g k r → r.right ≡ ys → Lacks t xs → Lacks t (behind (ys ++ xs))
   clean_row j k s r t rest [] xs hj ranked begins h e lacks = Lacks-behind t xs lacks
   clean_row j k s r t rest (y ∷ ys) xs hj ranked begins h e lacks =
       let m = good j s Rank hj ranked in

@@ -9,22 +9,11 @@ use Rattle.ll1_engine.specs.declared.fault.Break.TheVariants.{Barren}
 use Rattle.ll1_engine.specs.Table.{IsToken}
 use Rattle.ll1_engine.specs.Trees.{Trees, End, Leaf, Node, roots, leaves, preorder, DerivesSome}
 use Rattle.ll1_engine.specs.Conditions.{IsGood}
-use Rattle.ll1_engine.specs.Parse.{first_or, IsTreeOf, CanGoOn, StopsAt}
+use Rattle.ll1_engine.specs.Parse.{first_or, IsTreeOf, HasTree, CanGoOn, StopsAt}
 use Rattle.ll1_engine.proofs.Beside.{beside, roots-beside, leaves-beside, AreTrees-beside}
-use Rattle.ll1_engine.proofs.Begins.{is_left, left_is, row_of_left}
+use Rattle.ll1_engine.proofs.Begins.{AreTokens, AreTokens-append, AreTokens-parts, is_left, left_is, row_of_left}
 use Rattle.ll1_engine.proofs.Steps.{Spans, Ranked, State}
-
--- each symbol of the list is a token
-abbrev pub AreTokens : List Row → List ℕ → Type 0
-AreTokens g ts = AllByRecursion (IsToken g) ts
-
-pub AreTokens-append : (g : List Row) (xs ys : List ℕ) → AreTokens g xs → AreTokens g ys → AreTokens g (xs ++ ys)
-AreTokens-append g [] ys a b = b
-AreTokens-append g (x ∷ xs) ys a b = (a.0, AreTokens-append g xs ys a.1 b)
-
-pub AreTokens-parts : (g : List Row) (xs ys : List ℕ) → AreTokens g (xs ++ ys) → AreTokens g xs × AreTokens g ys
-AreTokens-parts g [] ys a = (tt, a)
-AreTokens-parts g (x ∷ xs) ys a = (let p = AreTokens-parts g xs ys a.1 in ((a.0, p.0), p.1))
+use Rattle.ll1_engine.proofs.Allowed.{derived_has_tree}
 
 pub DerivesSome-nil : (g : List Row) → DerivesSome g []
 DerivesSome-nil g = record { tokens = []; derives = record { trees = End; valid = tt; top = refl; bottom = refl; terminal = tt } }
@@ -77,15 +66,15 @@ tree_only g tokens rows other st t =
     no_rows : (more : List ℕ) → Ranked g [] [] more → more ≡ []
     no_rows more r = none r.trees more r.top r.order
 
--- nothing derived begins with what was taken and the token after it
+-- no list with a tree begins with what was taken and the token after it
 past : (g : List Row) (taken tokens : List ℕ) (place : ℕ) (more : List ℕ) → length taken ≡ place → tokens ≡ taken ++ more
     → ((ts : List ℕ) → first_or ts None ≡ first_or more None → ¬ Spans g (0 ∷ []) (taken ++ ts)) → place < length tokens → ¬ CanGoOn g (take (place + 1) tokens)
 past g taken tokens place [] at w none lt c = absurd (let e : length tokens ≡ length taken + 0 = ap length w ∙ length-append taken [] in omega arith)
 past g taken tokens place (t ∷ us) at w none lt c =
     let front : take (place + 1) tokens ≡ taken ++ t ∷ [] = ap (λ (zs : List ℕ). take (place + 1) zs) (w ∙ sym (append_assoc taken (t ∷ []) us)) ∙ take_at (taken ++ t ∷ []) us (place + 1) (let e : length (taken ++ t ∷ []) ≡ length taken + 1 = length-append taken (t ∷ []) in omega arith) in
-    let d = c.derives in
+    let d = c.whole.tree in
     none (t ∷ c.rest) refl (record {
-      trees = d.trees;
+      trees = d.tree;
       valid = d.valid;
       top = d.top;
       bottom = d.bottom ∙ (ap (λ (zs : List ℕ). zs ++ c.rest) front ∙ append_assoc taken (t ∷ []) c.rest);
@@ -99,16 +88,16 @@ stopped g good tokens taken rest rows stack whole terminal st stuck place at =
       within = within;
       before = subst (CanGoOn g) (sym front) (record {
         rest = a.tokens;
-        derives = record {
+        whole = derived_has_tree g good (taken ++ a.tokens) (record {
           trees = s.trees;
           valid = s.valid;
           top = s.top;
           bottom = s.bottom;
           terminal = AreTokens-append g taken a.tokens (AreTokens-parts g taken rest (subst (AreTokens g) whole terminal)).0 a.derives.terminal;
-        };
+        });
       });
       stuck = λ lt c. past g taken tokens place rest at whole (λ ts e sp. stuck ts e (st.any ts e sp)) lt c;
-      underived = λ d. stuck rest refl (st.any rest refl (record { trees = d.trees; valid = d.valid; top = d.top; bottom = d.bottom ∙ whole }));
+      treeless = λ h. (let d = h.tree in stuck rest refl (st.any rest refl (record { trees = d.tree; valid = d.valid; top = d.top; bottom = d.bottom ∙ whole })));
     }
   where
     front : take place tokens ≡ taken

@@ -7,6 +7,7 @@ mod check;
 mod checked;
 mod fault;
 mod grammar;
+pub mod laws;
 mod parser;
 mod sets;
 mod survey;
