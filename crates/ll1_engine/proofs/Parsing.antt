@@ -9,7 +9,8 @@ use Rattle.ll1_engine.specs.Conditions.{IsGood}
 use Rattle.ll1_engine.specs.Prediction.{Predicts}
 use Rattle.ll1_engine.specs.Parse.{first_or, IsTreeOf, StopsAt}
 use Rattle.ll1_engine.proofs.Steps.{Spans, State, State-start, State-expand, State-take, Spans-token, stuck_choice}
-use Rattle.ll1_engine.proofs.Stops.{AreTokens, tree_found, tree_only, stopped}
+use Rattle.ll1_engine.proofs.Begins.{AreTokens}
+use Rattle.ll1_engine.proofs.Stops.{tree_found, tree_only, stopped}
 
 -- the stack is what is to be derived after the tokens before `at`
 pub record IsUnderWay (symbols : ℕ) (g : List Row) (tokens : List ℕ) (place : ℕ) (rows stack : List ℕ) : Type 0 where
