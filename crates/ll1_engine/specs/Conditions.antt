@@ -4,7 +4,7 @@ use Rattle.ll1_engine.specs.declared.grammar.Row.{Row}
 use Rattle.ll1_engine.specs.declared.fault.Break.{Break}
 use Rattle.ll1_engine.specs.declared.fault.Break.TheVariants.{Barren, Rank, Nullable as NullableTwice, First, Follow}
 use Rattle.ll1_engine.specs.Table.{IsRow, IsToken}
-use Rattle.ll1_engine.specs.Trees.{DerivesSome, Nullable}
+use Rattle.ll1_engine.specs.Trees.{Productive, Nullable}
 use Rattle.ll1_engine.specs.First.{BeginsWith, InFollow}
 
 -- s is a row of the symbol of row k, other than row k
@@ -63,7 +63,7 @@ pub record MeetsFollow (g : List Row) (k : ℕ) (r : Row) : Type 0 where
 
 -- row k, which is r, meets the condition
 abbrev pub Meets : List Row → ℕ → Row → Break → Type 0
-Meets g k r Barren = DerivesSome g (r.left ∷ [])
+Meets g k r Barren = Productive g (r.left ∷ [])
 Meets g k r Rank = 0 < r.rank → MayRank g k r
 Meets g k r NullableTwice = ¬ BothNullable g k r
 Meets g k r First = ¬ SharesFirst g k r
@@ -71,7 +71,7 @@ Meets g k r Follow = ¬ MeetsFollow g k r
 
 -- row k, which is r, breaks the condition
 abbrev pub Breaks : List Row → ℕ → Row → Break → Type 0
-Breaks g k r Barren = ¬ DerivesSome g (r.left ∷ [])
+Breaks g k r Barren = ¬ Productive g (r.left ∷ [])
 Breaks g k r Rank = (0 < r.rank) × ¬ MayRank g k r
 Breaks g k r NullableTwice = BothNullable g k r
 Breaks g k r First = SharesFirst g k r

@@ -6,12 +6,12 @@ ghost use Rattle.ll1_engine.specs.declared.fault.Break.{Break};
 ghost use Rattle.ll1_engine.specs.declared.fault.TableFault.{TableFault};
 ghost use Rattle.ll1_engine.specs.Table.{IsRow};
 ghost use Rattle.ll1_engine.specs.Conditions.{IsOther, StandsOnlyFirstIn, MayRank, SharesFirst, Meets, Breaks, place_of, IsGood, IsFirstBreak};
-ghost use Rattle.ll1_engine.specs.Survey.{AreBelow, MarksTokens, AreAllSights, IsSurvey, OtherMarked, HasPlainTwin, BeginsAndFollows};
+ghost use Rattle.ll1_engine.specs.Analysis.{AreBelow, MarksTokens, AreAllTokenSets, IsAnalysis, OtherMarked, HasPlainTwin, BeginsAndFollows};
 
 use crate::checked::Checked;
 use crate::fault::{Break, CheckFault, TableFault};
 use crate::grammar::{Grammar, Row, Symbol, Token};
-use crate::survey::{Sights, Survey, survey_of};
+use crate::analysis::{AllTokenSets, Analysis, analyze};
 use std::alloc::Global;
 
 /// Whether row `j` is another row of the symbol of row `k`.
@@ -141,18 +141,18 @@ fn may_rank(rows: &[Row], tokens: &[bool], k: usize) -> bool
 }
 
 /// Whether a token is in FIRST of row `k` and of another row of its symbol.
-fn shares_first(size: usize, rows: &[Row], sights: &Sights, k: usize) -> bool
+fn shares_first(size: usize, rows: &[Row], token_sets: &AllTokenSets, k: usize) -> bool
     requires below { AreBelow size rows.now }
-    requires sights { AreAllSights size rows.now sights.now }
+    requires token_sets { AreAllTokenSets size rows.now token_sets.now }
     requires row { k < length rows.now }
     ensures { (r : Row) → IsRow rows.now k r → IsTrue result ↔ SharesFirst rows.now k r }
 {
     for token in 0..size {
-        let begun = sights.begun[token].as_slice();
-        if !begun[k] {
+        let first_rows = token_sets.first_rows[token].as_slice();
+        if !first_rows[k] {
             continue;
         }
-        if other_marked(rows, k, begun) {
+        if other_marked(rows, k, first_rows) {
             return true;
         }
     }
@@ -160,16 +160,16 @@ fn shares_first(size: usize, rows: &[Row], sights: &Sights, k: usize) -> bool
 }
 
 /// Whether a token is in FIRST of row `k` and in FOLLOW of its symbol.
-fn begins_and_follows(size: usize, rows: &[Row], sights: &Sights, k: usize) -> bool
+fn begins_and_follows(size: usize, rows: &[Row], token_sets: &AllTokenSets, k: usize) -> bool
     requires below { AreBelow size rows.now }
-    requires sights { AreAllSights size rows.now sights.now }
+    requires token_sets { AreAllTokenSets size rows.now token_sets.now }
     requires row { k < length rows.now }
     ensures { (r : Row) → IsRow rows.now k r → IsTrue result ↔ BeginsAndFollows rows.now r }
 {
     for token in 0..size {
-        let begun = sights.begun[token].as_slice();
-        let follow = sights.follows[token].as_slice();
-        if !begun[k] {
+        let first_rows = token_sets.first_rows[token].as_slice();
+        let follow = token_sets.follows[token].as_slice();
+        if !first_rows[k] {
             continue;
         }
         if follow[rows[k].left] {
@@ -180,101 +180,101 @@ fn begins_and_follows(size: usize, rows: &[Row], sights: &Sights, k: usize) -> b
 }
 
 /// Whether the left symbol of row `k` derives no list of tokens.
-fn breaks_barren(size: usize, rows: &[Row], seen: &Survey, k: usize) -> bool
+fn breaks_barren(size: usize, rows: &[Row], analysis: &Analysis, k: usize) -> bool
     requires below { AreBelow size rows.now }
-    requires seen { IsSurvey size rows.now seen.now }
+    requires analysis { IsAnalysis size rows.now analysis.now }
     requires row { k < length rows.now }
     ensures { (r : Row) → IsRow rows.now k r → MatchBool result (Breaks rows.now k r Break.Barren) (Meets rows.now k r Break.Barren) }
 {
-    !seen.alive[rows[k].left]
+    !analysis.productive[rows[k].left]
 }
 
 /// Whether row `k` has a rank above 0 that it may not have.
-fn breaks_rank(size: usize, rows: &[Row], seen: &Survey, k: usize) -> bool
+fn breaks_rank(size: usize, rows: &[Row], analysis: &Analysis, k: usize) -> bool
     requires below { AreBelow size rows.now }
-    requires seen { IsSurvey size rows.now seen.now }
+    requires analysis { IsAnalysis size rows.now analysis.now }
     requires row { k < length rows.now }
     ensures { (r : Row) → IsRow rows.now k r → MatchBool result (Breaks rows.now k r Break.Rank) (Meets rows.now k r Break.Rank) }
 {
     if rows[k].rank == 0 {
         return false;
     }
-    !may_rank(rows, seen.tokens.as_slice(), k)
+    !may_rank(rows, analysis.tokens.as_slice(), k)
 }
 
 /// Whether row `k` and another row of its symbol derive the empty list.
-fn breaks_nullable(size: usize, rows: &[Row], seen: &Survey, k: usize) -> bool
+fn breaks_nullable(size: usize, rows: &[Row], analysis: &Analysis, k: usize) -> bool
     requires below { AreBelow size rows.now }
-    requires seen { IsSurvey size rows.now seen.now }
+    requires analysis { IsAnalysis size rows.now analysis.now }
     requires row { k < length rows.now }
     ensures { (r : Row) → IsRow rows.now k r → MatchBool result (Breaks rows.now k r Break.Nullable) (Meets rows.now k r Break.Nullable) }
 {
-    if !seen.empty[k] {
+    if !analysis.nullable_rows[k] {
         return false;
     }
-    other_marked(rows, k, seen.empty.as_slice())
+    other_marked(rows, k, analysis.nullable_rows.as_slice())
 }
 
 /// Whether a token is in FIRST of row `k` and of another row of its symbol.
-fn breaks_first(size: usize, rows: &[Row], seen: &Survey, k: usize) -> bool
+fn breaks_first(size: usize, rows: &[Row], analysis: &Analysis, k: usize) -> bool
     requires below { AreBelow size rows.now }
-    requires seen { IsSurvey size rows.now seen.now }
+    requires analysis { IsAnalysis size rows.now analysis.now }
     requires row { k < length rows.now }
     ensures { (r : Row) → IsRow rows.now k r → MatchBool result (Breaks rows.now k r Break.First) (Meets rows.now k r Break.First) }
 {
-    shares_first(size, rows, &seen.sights, k)
+    shares_first(size, rows, &analysis.token_sets, k)
 }
 
 /// Whether row `k` has rank 0, another row of its symbol derives the empty list, and a token is in FIRST of row `k`
 /// and in FOLLOW of its symbol.
-fn breaks_follow(size: usize, rows: &[Row], seen: &Survey, k: usize) -> bool
+fn breaks_follow(size: usize, rows: &[Row], analysis: &Analysis, k: usize) -> bool
     requires below { AreBelow size rows.now }
-    requires seen { IsSurvey size rows.now seen.now }
+    requires analysis { IsAnalysis size rows.now analysis.now }
     requires row { k < length rows.now }
     ensures { (r : Row) → IsRow rows.now k r → MatchBool result (Breaks rows.now k r Break.Follow) (Meets rows.now k r Break.Follow) }
 {
     if rows[k].rank != 0 {
         return false;
     }
-    if !other_marked(rows, k, seen.empty.as_slice()) {
+    if !other_marked(rows, k, analysis.nullable_rows.as_slice()) {
         return false;
     }
-    begins_and_follows(size, rows, &seen.sights, k)
+    begins_and_follows(size, rows, &analysis.token_sets, k)
 }
 
 /// The first condition that row `k` breaks.
-fn break_of(size: usize, rows: &[Row], seen: &Survey, k: usize) -> Option<Break>
+fn break_of(size: usize, rows: &[Row], analysis: &Analysis, k: usize) -> Option<Break>
     requires below { AreBelow size rows.now }
-    requires seen { IsSurvey size rows.now seen.now }
+    requires analysis { IsAnalysis size rows.now analysis.now }
     requires row { k < length rows.now }
     ensures { (r : Row) → IsRow rows.now k r → MatchOption result ((b : Break) → Meets rows.now k r b) (λ b. Breaks rows.now k r b × ((a : Break) → place_of a < place_of b → Meets rows.now k r a)) }
 {
-    if breaks_barren(size, rows, seen, k) {
+    if breaks_barren(size, rows, analysis, k) {
         return Some(Break::Barren);
     }
-    if breaks_rank(size, rows, seen, k) {
+    if breaks_rank(size, rows, analysis, k) {
         return Some(Break::Rank);
     }
-    if breaks_nullable(size, rows, seen, k) {
+    if breaks_nullable(size, rows, analysis, k) {
         return Some(Break::Nullable);
     }
-    if breaks_first(size, rows, seen, k) {
+    if breaks_first(size, rows, analysis, k) {
         return Some(Break::First);
     }
-    if breaks_follow(size, rows, seen, k) {
+    if breaks_follow(size, rows, analysis, k) {
         return Some(Break::Follow);
     }
     None
 }
 
 /// The first broken condition of the table, row by row.
-fn first_break(size: usize, rows: &[Row], seen: &Survey) -> Option<TableFault>
+fn first_break(size: usize, rows: &[Row], analysis: &Analysis) -> Option<TableFault>
     requires below { AreBelow size rows.now }
-    requires seen { IsSurvey size rows.now seen.now }
+    requires analysis { IsAnalysis size rows.now analysis.now }
     ensures { MatchOption result (IsGood rows.now) (λ fault. IsFirstBreak rows.now fault.row fault.breaks) }
 {
     for row in 0..rows.len() {
-        if let Some(breaks) = break_of(size, rows, seen, row) {
+        if let Some(breaks) = break_of(size, rows, analysis, row) {
             return Some(TableFault { row, breaks });
         }
     }
@@ -291,9 +291,9 @@ pub fn check_table<const S: usize, const R: usize>(
     ensures fault { (fault : TableFault) → result ≡ Err (CheckFault.Table fault) → IsFirstBreak grammar.now fault.row fault.breaks }
 {
     let rows = grammar.rows();
-    let seen = survey_of(alloc, S, rows).map_err(CheckFault::Memory)?;
-    if let Some(fault) = first_break(S, rows, &seen) {
+    let analysis = analyze(alloc, S, rows).map_err(CheckFault::Memory)?;
+    if let Some(fault) = first_break(S, rows, &analysis) {
         return Err(CheckFault::Table(fault));
     }
-    Checked::new(alloc, rows, seen).map_err(CheckFault::Memory)
+    Checked::new(alloc, rows, analysis).map_err(CheckFault::Memory)
 }

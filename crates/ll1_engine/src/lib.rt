@@ -9,8 +9,9 @@ mod fault;
 mod grammar;
 pub mod laws;
 mod parser;
+mod relations;
 mod sets;
-mod survey;
+mod analysis;
 
 pub use check::check_table;
 pub use checked::Checked;

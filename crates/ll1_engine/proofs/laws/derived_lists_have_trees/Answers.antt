@@ -1,4 +1,4 @@
-use Rattle.ll1_engine.proofs.Allowed.{derived_has_tree, tree_derives}
+use Rattle.ll1_engine.proofs.HasTreeLemmas.{derived_has_tree, tree_derives}
 use Rattle.ll1_engine.proofs.laws.derived_lists_have_trees.Goals as goal
 
 pub returns : goal.returns
