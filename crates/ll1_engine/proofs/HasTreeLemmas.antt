@@ -88,9 +88,9 @@ module _ (g : List Row) (good : IsGood g) where
       let t = h.takes in
       let m = good h.j h.s Rank h.row t.ranked in
       let apart : h.j ≡ k → ⊥ = λ same.
-          let one : h.s ≡ r = same_row g k h.s r (subst (λ (z : ℕ). IsRow g z h.s) same h.row) i in
-          let e : r.right ≡ t.token ∷ t.rest = ap (λ (z : Row). z.right) (sym one) ∙ t.begins in
-          token_not_nullable g t.token t.rest (begins_ranked h.j h.s t.token t.rest h.row t.ranked t.begins).1 (subst (Nullable g) e n) in
+      let one : h.s ≡ r = same_row g k h.s r (subst (λ (z : ℕ). IsRow g z h.s) same h.row) i in
+      let e : r.right ≡ t.token ∷ t.rest = ap (λ (z : Row). z.right) (sym one) ∙ t.begins in
+      token_not_nullable g t.token t.rest (begins_ranked h.j h.s t.token t.rest h.row t.ranked t.begins).1 (subst (Nullable g) e n) in
       let back : IsOther g h.j h.s k r = record { row = i; left = sym t.left; apart = λ same. apart (sym same) } in
       let one : r ≡ m.s = same_row g m.j r m.s (subst (λ (z : ℕ). IsRow g z r) (m.only k r back) i) m.other.row in
       record {

@@ -117,7 +117,7 @@ pub first_exact : (g : List Row) (t : ℕ) (begins : List Row) (old new : List B
 first_exact g t begins old new rep only seed exact = λ x. (
   λ h p c. closure_least begins old new exact p
       (λ k r i all. let s = rep.sound k r i in let b = s.2 in
-          subst (λ (z : ℕ). IsTrue (p z)) b.left (c.row b.k b.r b.before s.0 b.after b.row b.parts b.skipped (and_parts (p s.0) true (subst (λ (zs : List ℕ). IsTrue (all_in p zs)) s.1 all)).0))
+      subst (λ (z : ℕ). IsTrue (p z)) b.left (c.row b.k b.r b.before s.0 b.after b.row b.parts b.skipped (and_parts (p s.0) true (subst (λ (zs : List ℕ). IsTrue (all_in p zs)) s.1 all)).0))
       (λ y o. let e = only y o in subst (λ (z : ℕ). IsTrue (p z)) (sym e.0) (c.itself e.1)) x h,
   λ f. f (marked new) (record {
     itself = λ tok. closure_grows begins old new exact t (seed tok);
@@ -147,7 +147,7 @@ pub follow_exact : (g : List Row) (t : ℕ) (next ends : List Row) (first old ne
 follow_exact g t next ends first old new f rep_next rep_ends seed exact = λ x. (
   λ h p c. closure_least ends old new exact p
       (λ k r i all. let s = rep_ends.sound k r i in let b = s.2 in
-          c.left b.k b.r b.before r.left b.after b.row b.parts b.skipped (subst (λ (z : ℕ). IsTrue (p z)) (sym b.left) (and_parts (p s.0) true (subst (λ (zs : List ℕ). IsTrue (all_in p zs)) s.1 all)).0))
+      c.left b.k b.r b.before r.left b.after b.row b.parts b.skipped (subst (λ (z : ℕ). IsTrue (p z)) (sym b.left) (and_parts (p s.0) true (subst (λ (zs : List ℕ). IsTrue (all_in p zs)) s.1 all)).0))
       (λ y o. let w = (seed y).0 o in subst (λ (z : ℕ). IsTrue (p z)) w.3 (seeded p c w.0 w.1 w.2 w.4)) x h,
   λ fol. fol (marked new) (record {
     start = λ e. absurd (cc);

@@ -62,7 +62,8 @@ PredictsMarked g marks x None = (k : ℕ) (r : Row) → IsRow g k r → r.left �
 PredictsMarked g marks x (Some k) = (r : Row) × IsRow g k r × (r.left ≡ x) × Has marks k
 
 -- what is found out for one token
-pub record AreTokenSets (size : ℕ) (g : List Row) (t : ℕ) (first_rows follow : List Bool) (first : List (Option ℕ)) : Type 0 where
+pub record AreTokenSets (size : ℕ) (g : List Row) (t : ℕ)
+    (first_rows follow : List Bool) (first : List (Option ℕ)) : Type 0 where
   pub first_row_size : length first_rows ≡ length g
   pub first_row_marks : MarksFirstRows g t first_rows
   pub follow_size : length follow ≡ size
@@ -71,11 +72,13 @@ pub record AreTokenSets (size : ℕ) (g : List Row) (t : ℕ) (first_rows follow
   pub first_predicted : (x : ℕ) → x < size → PredictsFirst g t x (slice_index_or first x None)
 
 -- and for each token below count
-pub record AreSetsBelow (count size : ℕ) (g : List Row) (first_rows follows : List (List Bool)) (first_predictions : List (List (Option ℕ))) : Type 0 where
+pub record AreSetsBelow (count size : ℕ) (g : List Row)
+    (first_rows follows : List (List Bool)) (first_predictions : List (List (Option ℕ))) : Type 0 where
   pub first_row_count : length first_rows ≡ count
   pub follow_count : length follows ≡ count
   pub prediction_count : length first_predictions ≡ count
-  pub each : (t : ℕ) → t < count → AreTokenSets size g t (slice_index_or first_rows t []) (slice_index_or follows t []) (slice_index_or first_predictions t [])
+  pub each : (t : ℕ) → t < count →
+      AreTokenSets size g t (slice_index_or first_rows t []) (slice_index_or follows t []) (slice_index_or first_predictions t [])
 
 -- and for each token of the table
 abbrev pub AreAllTokenSets : ℕ → List Row → AllTokenSets → Type 0

@@ -15,10 +15,11 @@ pub record IsOther (g : List Row) (k : ℕ) (r : Row) (j : ℕ) (s : Row) : Type
 
 -- each place where t stands in the table is the first of row k
 abbrev pub StandsOnlyFirstIn : List Row → ℕ → ℕ → Type 0
-StandsOnlyFirstIn g t k = (j : ℕ) (s : Row) (before after : List ℕ) → IsRow g j s → s.right ≡ before ++ t ∷ after → (j ≡ k) × (before ≡ [])
+StandsOnlyFirstIn g t k = (j : ℕ) (s : Row) (before after : List ℕ) → IsRow g j s →
+    s.right ≡ before ++ t ∷ after → (j ≡ k) × (before ≡ [])
 
 -- row k, which is r, may have a rank above 0: its first symbol is a token that the table has nowhere else, and the one
--- other row of its symbol is empty and has rank 0. With such a row an `else` goes with the `if` before it
+-- other row of its symbol is empty and has rank 0. With such a row an `else` goes with the nearest `if` before it
 pub record MayRank (g : List Row) (k : ℕ) (r : Row) : Type 0 where
   pub token : ℕ
   pub rest : List ℕ

@@ -19,11 +19,13 @@ PredictsFirst g t x (Some k) = (r : Row) × IsRow g k r × (r.left ≡ x) × Beg
 -- the row predicted for x where `next` stands: one that begins with it, else one that derives the empty list
 abbrev pub Predicts : List Row → ℕ → Option ℕ → Option ℕ → Type 0
 Predicts g x None choice = PredictsNullable g x choice
-Predicts g x (Some t) choice = ((k : ℕ) × (choice ≡ Some k) × PredictsFirst g t x (Some k)) ⊎ (PredictsFirst g t x None × PredictsNullable g x choice)
+Predicts g x (Some t) choice =
+    ((k : ℕ) × (choice ≡ Some k) × PredictsFirst g t x (Some k)) ⊎ (PredictsFirst g t x None × PredictsNullable g x choice)
 
 -- what a checked table keeps beside its rows: which symbols are tokens, for each token and symbol the row that
 -- begins with the token, and for each symbol the row that derives the empty list
-pub record IsPrepared (symbols rows : ℕ) (g : List Row) (tokens : List Bool) (first_predictions : List (List (Option ℕ))) (nullable_predictions : List (Option ℕ)) : Type 0 where
+pub record IsPrepared (symbols rows : ℕ) (g : List Row) (tokens : List Bool)
+    (first_predictions : List (List (Option ℕ))) (nullable_predictions : List (Option ℕ)) : Type 0 where
   pub good : IsGood g
   pub fits : FitsIn symbols rows g
   pub token_count : length tokens ≡ symbols
@@ -32,4 +34,5 @@ pub record IsPrepared (symbols rows : ℕ) (g : List Row) (tokens : List Bool) (
   pub nullable_predicted : (x : ℕ) → x < symbols → PredictsNullable g x (slice_index_or nullable_predictions x None)
   pub prediction_count : length first_predictions ≡ symbols
   pub row_count : (t : ℕ) → t < symbols → length (slice_index_or first_predictions t []) ≡ symbols
-  pub first_predicted : (t x : ℕ) → t < symbols → x < symbols → PredictsFirst g t x (slice_index_or (slice_index_or first_predictions t []) x None)
+  pub first_predicted : (t x : ℕ) → t < symbols → x < symbols →
+      PredictsFirst g t x (slice_index_or (slice_index_or first_predictions t []) x None)

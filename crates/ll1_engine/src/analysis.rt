@@ -46,6 +46,26 @@ pub(crate) struct Analysis {
     pub(crate) token_sets: AllTokenSets,
 }
 
+/// What is found out of a table of `size` symbols.
+pub(crate) fn analyze(alloc: Global, size: usize, rows: &[Row]) -> Result<Analysis, AllocError>
+    requires { AreBelow size rows.now }
+    ensures { IfOk result (λ s. IsAnalysis size rows.now s) }
+{
+    let tokens = token_marks(alloc, size, rows)?;
+    let productive = productive_marks(alloc, rows, tokens.as_slice())?;
+    let nullable = nullable_marks(alloc, size, rows)?;
+    let nullable_rows = nullable_row_marks(alloc, rows, nullable.as_slice())?;
+    let predictions = predictions_of(alloc, size, rows, nullable_rows.as_slice())?;
+    let token_sets = sets_of_tokens(alloc, rows, tokens.as_slice(), nullable.as_slice())?;
+    Ok(Analysis {
+        tokens,
+        productive,
+        nullable_rows,
+        nullable_predictions: Predictions::from_vec(predictions),
+        token_sets,
+    })
+}
+
 /// The symbols for which there is no row.
 fn token_marks(alloc: Global, size: usize, rows: &[Row]) -> Result<Vec<bool>, AllocError>
     requires { AreBelow size rows.now }
@@ -64,7 +84,8 @@ fn productive_marks(alloc: Global, rows: &[Row], tokens: &[bool]) -> Result<Vec<
     requires below { AreBelow (length tokens.now) rows.now }
     requires tokens { MarksTokens (length tokens.now) rows.now tokens.now }
     ensures size { IfOk result (λ marks. length marks.items ≡ length tokens.now) }
-    ensures exact { IfOk result (λ marks. MarksProductive (length tokens.now) rows.now marks.items) }
+    ensures exact { IfOk result
+        (λ marks. MarksProductive (length tokens.now) rows.now marks.items) }
 {
     let mut marks = Vec::from_slice(alloc, tokens)?;
     close_under(rows, marks.as_mut_slice());
@@ -82,140 +103,22 @@ fn nullable_marks(alloc: Global, size: usize, rows: &[Row]) -> Result<Vec<bool>,
     Ok(marks)
 }
 
-/// The symbols that have the token in their FIRST.
-fn first_marks(
-    alloc: Global,
-    rows: &[Row],
-    tokens: &[bool],
-    begins: &[Row],
-    token: Token,
-) -> Result<Vec<bool>, AllocError>
-    requires tokens { MarksTokens (length tokens.now) rows.now tokens.now }
-    requires below { AreBelow (length tokens.now) begins.now }
-    requires begins { Represents begins.now (BeginsDirectly rows.now) }
-    requires token { token < length tokens.now }
-    ensures size { IfOk result (λ marks. length marks.items ≡ length tokens.now) }
-    ensures exact { IfOk result (λ marks. MarksFirst rows.now token marks.items) }
-{
-    let mut marks = vec![in alloc; false; tokens.len()]?;
-    marks[token] = tokens[token];
-    close_under(begins, marks.as_mut_slice());
-    Ok(marks)
-}
-
-/// The left symbols of the rows whose right sides are in the set.
-fn left_marks(alloc: Global, rows: &[Row], set: &[bool]) -> Result<Vec<bool>, AllocError>
-    requires { AreBelow (length set.now) rows.now }
-    ensures size { IfOk result (λ marks. length marks.items ≡ length set.now) }
-    ensures exact { IfOk result
-        (λ marks. (x : ℕ) → Has marks.items x ↔ HasRowWithin rows.now set.now x) }
-{
-    let mut marks = vec![in alloc; false; set.len()]?;
-    for row in rows {
-        if all_marked(set, row.right.as_slice()) {
-            marks[row.left] = true;
-        }
-    }
-    Ok(marks)
-}
-
-/// The symbols that have the token of `first` in their FOLLOW.
-fn follow_marks(
-    alloc: Global,
-    rows: &[Row],
-    first: &[bool],
-    relations: &Relations,
-) -> Result<Vec<bool>, AllocError>
-    requires { AreRelations (length first.now) rows.now relations.now }
-    ensures size { IfOk result (λ marks. length marks.items ≡ length first.now) }
-    ensures exact { IfOk result (λ marks. (token : ℕ) →
-        MarksFirst rows.now token first.now → MarksFollow rows.now token marks.items) }
-{
-    let mut marks = left_marks(alloc, relations.next.as_slice(), first)?;
-    close_under(relations.ends.as_slice(), marks.as_mut_slice());
-    Ok(marks)
-}
-
 /// The rows whose right sides derive the empty list.
-fn nullable_row_marks(alloc: Global, rows: &[Row], nullable: &[bool]) -> Result<Vec<bool>, AllocError>
+fn nullable_row_marks(
+    alloc: Global,
+    rows: &[Row],
+    nullable: &[bool],
+) -> Result<Vec<bool>, AllocError>
     requires { AreBelow (length nullable.now) rows.now }
     ensures size { IfOk result (λ marks. length marks.items ≡ length rows.now) }
-    ensures exact { IfOk result (λ marks. (k : ℕ) (r : Row) → IsRow rows.now k r → marked marks.items k ≡ all_in (marked nullable.now) r.right) }
+    ensures exact { IfOk result (λ marks. (k : ℕ) (r : Row) → IsRow rows.now k r →
+        marked marks.items k ≡ all_in (marked nullable.now) r.right) }
 {
     let mut marks = Vec::new(alloc);
     for row in rows {
         marks.push(all_marked(nullable, row.right.as_slice()))?;
     }
     Ok(marks)
-}
-
-/// The rows that have the token of `first` in their FIRST.
-fn first_row_marks(
-    alloc: Global,
-    rows: &[Row],
-    first: &[bool],
-    nullable: &[bool],
-) -> Result<Vec<bool>, AllocError>
-    requires below { AreBelow (length first.now) rows.now }
-    requires sizes { length nullable.now ≡ length first.now }
-    ensures size { IfOk result (λ marks. length marks.items ≡ length rows.now) }
-    ensures exact { IfOk result (λ marks. (k : ℕ) (r : Row) → IsRow rows.now k r → marked marks.items k ≡ begins_in (marked first.now) (marked nullable.now) r.right) }
-{
-    let mut marks = Vec::new(alloc);
-    for row in rows {
-        marks.push(begins(first, nullable, row.right.as_slice()))?;
-    }
-    Ok(marks)
-}
-
-/// For each symbol a marked row of it, or none.
-fn predictions_of(
-    alloc: Global,
-    size: usize,
-    rows: &[Row],
-    marks: &[bool],
-) -> Result<Vec<Option<usize>>, AllocError>
-    requires below { AreBelow size rows.now }
-    requires sizes { length marks.now ≡ length rows.now }
-    ensures size { IfOk result (λ predictions. length predictions.items ≡ size) }
-    ensures exact { IfOk result (λ predictions. (x : ℕ) → x < size → PredictsMarked rows.now marks.now x (slice_index_or predictions.items x None)) }
-{
-    let mut predictions = vec![in alloc; None; size]?;
-    for k in 0..rows.len() {
-        if marks[k] {
-            predictions[rows[k].left] = Some(k);
-        }
-    }
-    Ok(predictions)
-}
-
-/// What is found out for one token.
-fn sets_of_token(
-    alloc: Global,
-    rows: &[Row],
-    tokens: &[bool],
-    nullable: &[bool],
-    relations: &Relations,
-    token: Token,
-) -> Result<TokenSets, AllocError>
-    requires below { AreBelow (length tokens.now) rows.now }
-    requires sizes { length nullable.now ≡ length tokens.now }
-    requires tokens { MarksTokens (length tokens.now) rows.now tokens.now }
-    requires nullable { MarksNullable rows.now nullable.now }
-    requires relations { AreRelations (length tokens.now) rows.now relations.now }
-    requires token { token < length tokens.now }
-    ensures { IfOk result (λ s.
-        AreTokenSets (length tokens.now) rows.now token s.first_rows s.follow s.first_predictions) }
-{
-    let first = first_marks(alloc, rows, tokens, relations.begins.as_slice(), token)?;
-    let follow = follow_marks(alloc, rows, first.as_slice(), relations)?;
-    let first_rows = first_row_marks(alloc, rows, first.as_slice(), nullable)?;
-    let predictions = predictions_of(alloc, tokens.len(), rows, first_rows.as_slice())?;
-    Ok(TokenSets {
-        first_rows: Marks::from_vec(first_rows),
-        follow: Marks::from_vec(follow),
-        first_predictions: Predictions::from_vec(predictions),
-    })
 }
 
 /// What is found out for each token.
@@ -248,22 +151,127 @@ fn sets_of_tokens(
     })
 }
 
-/// What is found out of a table of `size` symbols.
-pub(crate) fn analyze(alloc: Global, size: usize, rows: &[Row]) -> Result<Analysis, AllocError>
-    requires { AreBelow size rows.now }
-    ensures { IfOk result (λ s. IsAnalysis size rows.now s) }
+/// What is found out for one token.
+fn sets_of_token(
+    alloc: Global,
+    rows: &[Row],
+    tokens: &[bool],
+    nullable: &[bool],
+    relations: &Relations,
+    token: Token,
+) -> Result<TokenSets, AllocError>
+    requires below { AreBelow (length tokens.now) rows.now }
+    requires sizes { length nullable.now ≡ length tokens.now }
+    requires tokens { MarksTokens (length tokens.now) rows.now tokens.now }
+    requires nullable { MarksNullable rows.now nullable.now }
+    requires relations { AreRelations (length tokens.now) rows.now relations.now }
+    requires token { token < length tokens.now }
+    ensures { IfOk result (λ s.
+        AreTokenSets (length tokens.now) rows.now token s.first_rows s.follow s.first_predictions) }
 {
-    let tokens = token_marks(alloc, size, rows)?;
-    let productive = productive_marks(alloc, rows, tokens.as_slice())?;
-    let nullable = nullable_marks(alloc, size, rows)?;
-    let nullable_rows = nullable_row_marks(alloc, rows, nullable.as_slice())?;
-    let predictions = predictions_of(alloc, size, rows, nullable_rows.as_slice())?;
-    let token_sets = sets_of_tokens(alloc, rows, tokens.as_slice(), nullable.as_slice())?;
-    Ok(Analysis {
-        tokens,
-        productive,
-        nullable_rows,
-        nullable_predictions: Predictions::from_vec(predictions),
-        token_sets,
+    let first = first_marks(alloc, rows, tokens, relations.begins.as_slice(), token)?;
+    let follow = follow_marks(alloc, rows, first.as_slice(), relations)?;
+    let first_rows = first_row_marks(alloc, rows, first.as_slice(), nullable)?;
+    let predictions = predictions_of(alloc, tokens.len(), rows, first_rows.as_slice())?;
+    Ok(TokenSets {
+        first_rows: Marks::from_vec(first_rows),
+        follow: Marks::from_vec(follow),
+        first_predictions: Predictions::from_vec(predictions),
     })
+}
+
+/// The symbols that have the token in their FIRST.
+fn first_marks(
+    alloc: Global,
+    rows: &[Row],
+    tokens: &[bool],
+    begins: &[Row],
+    token: Token,
+) -> Result<Vec<bool>, AllocError>
+    requires tokens { MarksTokens (length tokens.now) rows.now tokens.now }
+    requires below { AreBelow (length tokens.now) begins.now }
+    requires begins { Represents begins.now (BeginsDirectly rows.now) }
+    requires token { token < length tokens.now }
+    ensures size { IfOk result (λ marks. length marks.items ≡ length tokens.now) }
+    ensures exact { IfOk result (λ marks. MarksFirst rows.now token marks.items) }
+{
+    let mut marks = vec![in alloc; false; tokens.len()]?;
+    marks[token] = tokens[token];
+    close_under(begins, marks.as_mut_slice());
+    Ok(marks)
+}
+
+/// The symbols that have the token of `first` in their FOLLOW.
+fn follow_marks(
+    alloc: Global,
+    rows: &[Row],
+    first: &[bool],
+    relations: &Relations,
+) -> Result<Vec<bool>, AllocError>
+    requires { AreRelations (length first.now) rows.now relations.now }
+    ensures size { IfOk result (λ marks. length marks.items ≡ length first.now) }
+    ensures exact { IfOk result (λ marks. (token : ℕ) →
+        MarksFirst rows.now token first.now → MarksFollow rows.now token marks.items) }
+{
+    let mut marks = left_marks(alloc, relations.next.as_slice(), first)?;
+    close_under(relations.ends.as_slice(), marks.as_mut_slice());
+    Ok(marks)
+}
+
+/// The left symbols of the rows whose right sides are in the set.
+fn left_marks(alloc: Global, rows: &[Row], set: &[bool]) -> Result<Vec<bool>, AllocError>
+    requires { AreBelow (length set.now) rows.now }
+    ensures size { IfOk result (λ marks. length marks.items ≡ length set.now) }
+    ensures exact { IfOk result
+        (λ marks. (x : ℕ) → Has marks.items x ↔ HasRowWithin rows.now set.now x) }
+{
+    let mut marks = vec![in alloc; false; set.len()]?;
+    for row in rows {
+        if all_marked(set, row.right.as_slice()) {
+            marks[row.left] = true;
+        }
+    }
+    Ok(marks)
+}
+
+/// The rows that have the token of `first` in their FIRST.
+fn first_row_marks(
+    alloc: Global,
+    rows: &[Row],
+    first: &[bool],
+    nullable: &[bool],
+) -> Result<Vec<bool>, AllocError>
+    requires below { AreBelow (length first.now) rows.now }
+    requires sizes { length nullable.now ≡ length first.now }
+    ensures size { IfOk result (λ marks. length marks.items ≡ length rows.now) }
+    ensures exact { IfOk result (λ marks. (k : ℕ) (r : Row) → IsRow rows.now k r →
+        marked marks.items k ≡ begins_in (marked first.now) (marked nullable.now) r.right) }
+{
+    let mut marks = Vec::new(alloc);
+    for row in rows {
+        marks.push(begins(first, nullable, row.right.as_slice()))?;
+    }
+    Ok(marks)
+}
+
+/// For each symbol a marked row of it, or none.
+fn predictions_of(
+    alloc: Global,
+    size: usize,
+    rows: &[Row],
+    marks: &[bool],
+) -> Result<Vec<Option<usize>>, AllocError>
+    requires below { AreBelow size rows.now }
+    requires sizes { length marks.now ≡ length rows.now }
+    ensures size { IfOk result (λ predictions. length predictions.items ≡ size) }
+    ensures exact { IfOk result (λ predictions. (x : ℕ) → x < size →
+        PredictsMarked rows.now marks.now x (slice_index_or predictions.items x None)) }
+{
+    let mut predictions = vec![in alloc; None; size]?;
+    for k in 0..rows.len() {
+        if marks[k] {
+            predictions[rows[k].left] = Some(k);
+        }
+    }
+    Ok(predictions)
 }

@@ -8,8 +8,8 @@ ghost use Rattle.ll1_engine.specs.Conditions.{IsGood};
 ghost use Rattle.ll1_engine.specs.Analysis.{IsAnalysis};
 ghost use Rattle.ll1_engine.specs.Prediction.{PredictsFirst, PredictsNullable, Predicts};
 
-use crate::grammar::{Row, Rows, Symbol, Token, copied};
 use crate::analysis::{AllTokenSets, Analysis};
+use crate::grammar::{Row, Rows, Symbol, Token, copied};
 use sqlite_items::Items;
 use std::alloc::{AllocError, Global};
 use std::marker::Model;
@@ -35,7 +35,8 @@ impl<const S: usize, const R: usize> Model for Checked<S, R> {
 
     ghost view = { λ c. c.rows };
 
-    ghost invariant = { λ c. IsPrepared S R c.rows c.tokens.items c.first_predictions.items c.nullable_predictions };
+    ghost invariant = { λ c.
+        IsPrepared S R c.rows c.tokens.items c.first_predictions.items c.nullable_predictions };
 }
 
 impl<const S: usize, const R: usize> Checked<S, R> {

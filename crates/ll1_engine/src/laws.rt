@@ -9,5 +9,6 @@ ghost use Rattle.ll1_engine.specs.Parse.{HasTree};
 
 /// In a good table the ranks take no list away: what is derived has a tree that they allow.
 pub fn derived_lists_have_trees()
-    ensures { (g : List Row) (tokens : List ℕ) → IsGood g → Derives g (0 ∷ []) tokens ↔ HasTree g tokens }
+    ensures { (g : List Row) (tokens : List ℕ) → IsGood g →
+        Derives g (0 ∷ []) tokens ↔ HasTree g tokens }
 {}

@@ -3,6 +3,7 @@
 //! past which no list with a tree can go on.
 #![tactic(auto)]
 
+mod analysis;
 mod check;
 mod checked;
 mod fault;
@@ -11,13 +12,9 @@ pub mod laws;
 mod parser;
 mod relations;
 mod sets;
-mod analysis;
 
 pub use check::check_table;
 pub use checked::Checked;
 pub use fault::{Break, CheckFault, ParseFault, Stop, TableFault};
 pub use grammar::{Grammar, Row, Rows, Symbol, Symbols, Token};
 pub use parser::{Tree, parse};
-
-#[cfg(test)]
-mod tests;

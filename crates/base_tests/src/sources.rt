@@ -1,5 +1,6 @@
-//! Sources as `scripts/load_branches.py` works out their branches.
-use crate::make_source;
+//! Sources as `scripts/load_branches.py` works out their branches, for `load_maker`.
+
+use load_maker::{MAX_SIZE, is_size, make_source};
 use std::test::Fail;
 
 /// The skeleton with a struct of two fields and one assignment, up to its branches, and what follows them.
@@ -28,12 +29,10 @@ fn sources_are_those_of_the_script(rt: HostRuntime) -> Result<(), Fail> {
         let expected = format!(in rt.alloc(); "{BEFORE}{branches}{AFTER}")?;
         assert_eq!(rt; source.as_slice(), expected.as_bytes(), "{number} {size}");
     }
-    Ok(())
-}
-
-#[test]
-fn the_longest_source_has_all_branches(rt: HostRuntime) -> Result<(), Fail> {
-    let source = make_source(rt.alloc(), 7, 1000)?;
-    assert_eq!(rt; source.len(), BEFORE.len() + 44_466 + AFTER.len());
+    let longest = make_source(rt.alloc(), 7, MAX_SIZE)?;
+    assert_eq!(rt; longest.len(), BEFORE.len() + 44_466 + AFTER.len());
+    for (size, fits) in [(0, false), (1, true), (1_000, true), (1_001, false)] {
+        assert_eq!(rt; is_size(size), fits, "{size}");
+    }
     Ok(())
 }
