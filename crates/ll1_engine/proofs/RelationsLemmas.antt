@@ -5,7 +5,7 @@ use Rattle.std.specs.List.{AllByRecursion}
 use Rattle.std.proofs.lemmas.Bool.{and_parts}
 use Rattle.std.proofs.lemmas.List.{append-nil, drop_all}
 use Rattle.ll1_engine.specs.declared.grammar.Row.{Row}
-use Rattle.ll1_engine.specs.Table.{IsRow, RowIsBelow}
+use Rattle.ll1_engine.specs.Table.{IsRow}
 use Rattle.ll1_engine.specs.Trees.{Nullable}
 use Rattle.ll1_engine.specs.Marks.{marked, all_in}
 use Rattle.ll1_engine.specs.Relations.{BeginsDirectly, StandsBefore, EndsDirectly, Represents, pair, begin_pairs, next_pairs, end_pairs, over}

@@ -3,13 +3,12 @@
 use Rattle.std.proofs.Common.{◌≡◌, ℕ, ◌+◌, ◌<◌, ◌≤◌, true, false, List, [], ◌∷◌, ◌++◌, length, take, None, refl, sym, ap, ◌∙◌, subst, inl, inr, append_assoc, arith}
 use Rattle.std.proofs.lemmas.List.{append-nil, take_at, length-append}
 use Rattle.std.proofs.lemmas.Bool.{cases_Bool, false≢true}
-use Rattle.std.specs.List.{AllByRecursion}
 use Rattle.ll1_engine.specs.declared.grammar.Row.{Row}
 use Rattle.ll1_engine.specs.declared.fault.Break.TheVariants.{Barren}
 use Rattle.ll1_engine.specs.Table.{IsToken}
 use Rattle.ll1_engine.specs.Trees.{Trees, End, Leaf, Node, roots, leaves, preorder, Productive}
 use Rattle.ll1_engine.specs.Conditions.{IsGood}
-use Rattle.ll1_engine.specs.Parse.{first_or, IsTreeOf, HasTree, CanGoOn, StopsAt}
+use Rattle.ll1_engine.specs.Parse.{first_or, IsTreeOf, CanGoOn, StopsAt}
 use Rattle.ll1_engine.proofs.TreesLemmas.{beside, roots_beside, leaves_beside, AreTrees_beside}
 use Rattle.ll1_engine.proofs.FirstLemmas.{AreTokens, AreTokens_append, AreTokens_parts, is_left, left_is, row_of_left}
 use Rattle.ll1_engine.proofs.StateLemmas.{Spans, Ranked, State}

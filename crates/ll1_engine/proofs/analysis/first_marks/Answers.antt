@@ -1,4 +1,4 @@
-use Rattle.std.proofs.Common.{◌≡◌, ℕ, sym, subst, ap, length, get_or, set, replicate, false, Bool, List, [], ◌∷◌, ◌∙◌}
+use Rattle.std.proofs.Common.{◌≡◌, sym, subst, ap, length, get_or, set, replicate, false, Bool, List, [], ◌∷◌, ◌∙◌}
 use Rattle.std.specs.Prelude.{◌↔◌}
 use Rattle.ll1_engine.specs.Marks.{Has, DerivesWithin}
 use Rattle.ll1_engine.specs.Analysis.{MarksFirst}

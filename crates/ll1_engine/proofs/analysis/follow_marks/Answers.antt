@@ -1,9 +1,9 @@
-use Rattle.std.proofs.Common.{◌≡◌, ℕ, sym, subst, length, Bool, List, [], ◌∷◌, ◌∙◌}
+use Rattle.std.proofs.Common.{◌≡◌, sym, subst, Bool, List, [], ◌∷◌, ◌∙◌}
 use Rattle.std.specs.Prelude.{◌↔◌}
 use Rattle.ll1_engine.specs.declared.grammar.Row.{Row}
 use Rattle.ll1_engine.specs.Marks.{Has, DerivesWithin}
 use Rattle.ll1_engine.specs.Relations.{StandsBefore, EndsDirectly, Represents}
-use Rattle.ll1_engine.specs.Analysis.{MarksFollow, HasRowWithin}
+use Rattle.ll1_engine.specs.Analysis.{MarksFollow}
 use Rattle.ll1_engine.proofs.LeastSetLemmas.{written, follow_exact}
 use Rattle.ll1_engine.proofs.analysis.follow_marks.Goals as goal
 

@@ -1,12 +1,10 @@
-use Rattle.std.proofs.Common.{◌≡◌, ◌<◌, ◌+◌, ◌++◌, List, length, drop, get_or, refl, sym, ap, subst, ◌∙◌, append_assoc, arith}
+use Rattle.std.proofs.Common.{◌<◌, length, refl, sym, subst, arith}
 use Rattle.std.specs.List.{AllByRecursion}
-use Rattle.std.proofs.lemmas.List.{append-nil, drop_all}
 use Rattle.std.proofs.lemmas.Option.{slice_get_read}
-use Rattle.ll1_engine.specs.declared.grammar.Row.{Row}
 use Rattle.ll1_engine.specs.Table.{IsRow}
 use Rattle.ll1_engine.specs.Marks.{marked}
-use Rattle.ll1_engine.specs.Relations.{begin_pairs, next_pairs, end_pairs, over}
-use Rattle.ll1_engine.proofs.RelationsLemmas.{begins_represent, next_represent, ends_represent, begins_below, next_below, ends_below, pairs_below, pushed, finished}
+use Rattle.ll1_engine.specs.Relations.{begin_pairs, next_pairs, end_pairs}
+use Rattle.ll1_engine.proofs.RelationsLemmas.{begins_represent, next_represent, ends_represent, begins_below, next_below, ends_below, pairs_below, finished}
 use Rattle.ll1_engine.proofs.relations.relations_of.Goals as goal
 
 pub push_begins-requires : goal.push_begins-requires
