@@ -1,6 +1,6 @@
 #!/bin/bash
-# Times each row of the operator table outside the gate, beside plain C in the same run: nanoseconds an operation of each, and
-# their ratio. It fails where the two compute different numbers. It builds a scratch program over a copy of the crate, so it
+# Times each row of the operator table outside the gate, beside plain C in the same run: nanoseconds an operation of each,
+# the best of five runs, and their ratio. It fails where the two compute different numbers. It builds a scratch program over a copy of the crate, so it
 # needs the kit on the PATH, and a C compiler: CC, or else clang, whose code generator is the kit's too.
 # Usage: bench/operators.sh [FOLDER]   (default: a new temporary folder, removed afterwards)
 set -euo pipefail
@@ -18,15 +18,26 @@ cp "$root/bench/operators_bench.txt" "$scratch/crates/operators_bench/src/main.r
 ${CC:-clang} -O2 -o "$scratch/plain" "$root/bench/operators_bench.c"
 cd "$scratch"
 [ -d .git ] || git init -q .
-"$scratch/plain" > plain.txt
-(cd crates/operators_bench && rt run) > proved.txt
+(cd crates/operators_bench && rt run) > built.txt
+for _ in 1 2 3 4 5; do
+    "$scratch/plain" >> plain.txt
+    crates/operators_bench/out/operators_bench >> proved.txt
+done
 awk '
     NF != 4 || $1 !~ /^[A-Z][A-Za-z]*$/ { next }
-    FNR == NR { plain[$1, $2] = $3; state[$1, $2] = $4; next }
-    ($1, $2) in plain {
-        rows++
+    FNR == NR { if (!(($1, $2) in plain) || $3 < plain[$1, $2]) plain[$1, $2] = $3; state[$1, $2] = $4; next }
+    !(($1, $2) in proved) { rows[++count] = $1 " " $2; proved[$1, $2] = $3 }
+    {
+        if ($3 < proved[$1, $2]) proved[$1, $2] = $3
         if (state[$1, $2] != $4) { print $1, $2, "differs:", state[$1, $2], $4; bad = 1 }
-        printf "%-8s %3d bits  %5.1f ns  plain C %5.1f ns  ratio %.2f\n", $1, $2, $3 / 2e7, plain[$1, $2] / 2e7, $3 / plain[$1, $2]
     }
-    END { if (rows != 41) { print rows " rows, and not 41"; bad = 1 } exit bad }
+    END {
+        for (row = 1; row <= count; row++) {
+            split(rows[row], key, " ")
+            mine = proved[key[1], key[2]]; theirs = plain[key[1], key[2]]
+            printf "%-8s %3d bits  %5.1f ns  plain C %5.1f ns  ratio %.2f\n", key[1], key[2], mine / 4e6, theirs / 4e6, mine / theirs
+        }
+        if (count != 41) { print count " rows, and not 41"; bad = 1 }
+        exit bad
+    }
 ' plain.txt proved.txt

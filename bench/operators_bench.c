@@ -10,7 +10,7 @@ typedef struct { uint8_t width; u128 value; } Bits;
 enum { Add, Sub, Mul, AddSatU, SubSatU, AddSatS, SubSatS, And, Or, Xor, Not, Neg, Shl, ShrU, ShrS, Cat, Eq, LtU, LeU, LtS, LeS };
 static const char *names[] = { "Add", "Sub", "Mul", "AddSatU", "SubSatU", "AddSatS", "SubSatS", "And", "Or", "Xor", "Not", "Neg", "Shl",
                                "ShrU", "ShrS", "Cat", "Eq", "LtU", "LeU", "LtS", "LeS" };
-enum { STEPS = 20000000 };
+enum { STEPS = 4000000 };
 
 static u128 greatest(uint8_t w) { return ~(u128)0 >> (128 - w); }
 static Bits cut(uint8_t w, u128 v) { return (Bits){ w, v & greatest(w) }; }
