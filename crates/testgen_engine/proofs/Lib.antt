@@ -2,6 +2,7 @@ pub mod ChosenLemmas
 pub mod DigitLemmas
 pub mod Digits
 pub mod EndLemmas
+pub mod FindingsLemmas
 pub mod FitLemmas
 pub mod LineLemmas
 pub mod Lists
