@@ -1,9 +1,9 @@
 -- Lemmas on how a call may end.
-use Rattle.std.proofs.Common.{◌≡◌, ◌≢◌, ℕ, ◌*◌, ◌<◌, ◌≤◌, Bool, true, false, IsTrue, List, [], ◌∷◌, ◌++◌, Option, None, Some, Result, Ok, Err, IsErr, IfOk, length, inl, inr, refl, ap, sym, ◌∙◌, subst, arith, append-nil, length-append}
-use Rattle.std.proofs.lemmas.Fmt.{length-decimal-le}
+use Rattle.std.proofs.Common.{◌≡◌, ◌≢◌, ℕ, ◌*◌, ◌<◌, ◌≤◌, Bool, true, false, IsTrue, List, [], ◌∷◌, ◌++◌, Option, None, Some, IfSome, IsSomeAnd, All, Result, Ok, Err, IsErr, IfOk, length, inl, inr, refl, ap, sym, ◌∙◌, subst, arith, append-nil, take, lit<}
+use Rattle.std.proofs.Math.Seq.{take-append_seam}
 use Rattle.std.proofs.lemmas.Result.{MatchResult-from_err}
-use Rattle.std.specs.Fmt.{decimal}
-use Rattle.std.specs.List.{flat_map, AllByRecursion}
+use Rattle.std.proofs.lemmas.List.Elements.{recursion_from_All}
+use Rattle.std.specs.List.{AllByRecursion}
 use Rattle.std.specs.Prelude.{codes}
 use Rattle.std.specs.Result.{MatchResult}
 use Rattle.tg_base.specs.declared.desk.DeskFault.{DeskFault}
@@ -12,60 +12,37 @@ use Rattle.tg_base.specs.declared.desk.Out.{Out}
 use Rattle.tg_base.specs.declared.desk.Out.TheVariants as out
 use Rattle.tg_base.specs.declared.place.Refusal.{Refusal}
 use Rattle.tg_base.specs.Faults.{Rose}
-use Rattle.tg_base.specs.Moment.{Moment, KeepsReading, KeepsWriting, output_after}
+use Rattle.tg_base.specs.Moment.{Moment, Opened, IsOfFile, TellsTruly, KeepsReading, KeepsWriting, output_after}
 use Rattle.p4_program.specs.declared.bounds.Bounds.{Bounds}
 use Rattle.p4_program.specs.declared.program.Program.{Program}
-use Rattle.p4_program.specs.declared.program.StatementKind.{StatementKind}
-use Rattle.p4_program.specs.declared.program.StatementKind.TheVariants.{AssignEgressSpec, MarkToDrop}
 use Rattle.testgen_engine.specs.Decide.{findings}
 use Rattle.testgen_engine.specs.declared.decide.Decided.{Decided}
 use Rattle.testgen_engine.specs.declared.source.TheConstants.{MOST_BYTES}
 use Rattle.testgen_engine.specs.declared.status.Status.{Status}
 use Rattle.testgen_engine.specs.declared.status.Status.TheVariants.{Done, WrongWords, Refused, ReadFault}
 use Rattle.testgen_engine.specs.Ended.{Finds, IsCutFinding, Ends, Ended}
-use Rattle.testgen_engine.specs.Endings.{ReadsProgram, ReadsRefused, MeetsFault, Finishes, MayTake, IsCutShort}
-use Rattle.testgen_engine.specs.Endings.MayTake.TheVariants as may
+use Rattle.testgen_engine.specs.Endings.{ReadsProgram, ReadsRefused, MeetsFault, Finishes, MayTake, IsCutShort, HasSource, CountsNoFault, Completes, RefusesWhole}
 use Rattle.testgen_engine.specs.Findings.{AreRight, IsUndecided, IsPrefix, text_of}
 use Rattle.testgen_engine.specs.Notes.{usage_note, read_fault_note, refusal_note}
 use Rattle.testgen_engine.specs.Outputs.{Adds, ArePrefixes, AddsPrefixes, Writes, only}
-use Rattle.testgen_engine.specs.Skeleton.{head_text, tail_text, assign_text, drop_text, end_text, line_text, FitsNineBits, StandsFor, IsRefused}
-use Rattle.testgen_engine.specs.Source.{HasRead, FailsReading, ReadsSource}
+use Rattle.testgen_engine.specs.Skeleton.{StandsFor, IsRefused}
+use Rattle.testgen_engine.specs.Source.{HasRead, FailsReading, ReadsOnly, ReadsSource}
 use Rattle.testgen_engine.specs.Status.{status_of}
 use Rattle.testgen_engine.specs.Words.{AsksGen, AsksNothing}
-use Rattle.testgen_engine.proofs.FindingsLemmas.{right_prefix}
+use Rattle.testgen_engine.proofs.FindingsLemmas.{right_prefix, nothing_taken}
+use Rattle.testgen_engine.proofs.Lists.{append_left_injective}
 use Rattle.testgen_engine.proofs.OutputLemmas.{adds_nothing}
+use Rattle.testgen_engine.proofs.SkeletonLemmas.{built_short, refused_or_built, refused_whole}
 use Rattle.testgen_engine.proofs.SourceLemmas.{read_stays}
-
--- the lines of a statement have at most 30 characters
-line_short : (kind : StatementKind) → FitsNineBits kind → length (line_text kind) ≤ 30
-unfolding assign_text drop_text end_text
-line_short (AssignEgressSpec value) fits =
-    let number = length-decimal-le 3 value (omega arith) (omega arith) (omega arith) in
-    let small : length (assign_text ++ (decimal value ++ end_text)) ≤ 30 = omega (arith, length-append assign_text (decimal value ++ end_text), length-append (decimal value) end_text) in
-    small
-line_short MarkToDrop fits = omega arith
-
-lines_short : (kinds : List StatementKind) → AllByRecursion FitsNineBits kinds → length (flat_map line_text kinds) ≤ 30 * length kinds
-lines_short [] fits = omega arith
-lines_short (kind ∷ kinds) fits = omega (arith, length-append (line_text kind) (flat_map line_text kinds), line_short kind fits.0, lines_short kinds fits.1)
-
-frame_short : (length head_text ≤ 1000) × (length tail_text ≤ 1000)
-unfolding head_text tail_text
-frame_short = (omega arith, omega arith)
 
 -- the source of a program is shorter than what is taken of one
 stands_short : (bytes : List ℕ) (p : Program) → StandsFor bytes p → length bytes < MOST_BYTES
-stands_short bytes p s =
-    let lines = lines_short s.kinds s.fit in
-    let few = s.few in
-    omega (arith, ap length s.text, length-append head_text (flat_map line_text s.kinds ++ tail_text), length-append (flat_map line_text s.kinds) tail_text, frame_short)
+stands_short bytes p stands = omega (arith, built_short bytes p stands)
 
 -- so one that was not read to its end is refused however it goes on
 refused_longer : (bytes rest : List ℕ) (refusal : Refusal) → length bytes ≡ MOST_BYTES → IsRefused bytes refusal → IsRefused (bytes ++ rest) refusal
-refused_longer bytes rest refusal long h = record {
-  not_built = λ p s. omega (arith, stands_short (bytes ++ rest) p s, length-append bytes rest);
-  told = h.told;
-}
+refused_longer bytes rest refusal long refused =
+    refused_whole MOST_BYTES bytes (bytes ++ rest) refusal (lit< tt) (sym (ap (λ n. take n (bytes ++ rest)) (sym long) ∙ take-append_seam bytes rest)) refused
 
 -- a text that was added behind reads that left the outputs as they were
 adds_from : (first second third : Moment) (text : Out → List ℕ) → KeepsWriting first second → Adds second third text → Adds first third text
@@ -116,11 +93,11 @@ met_fault first second third words name b asks fails rose stays = record {
 }
 
 -- a call that is cut short before it writes
-cut_at_once : (first second : Moment) (words : List (List ℕ)) → KeepsWriting first second → IsCutShort first second words
+pub cut_at_once : (first second : Moment) (words : List (List ℕ)) → KeepsWriting first second → IsCutShort first second words
 cut_at_once first second words stays = record {
   taken = λ o. [];
   adds = adds_nothing first second stays.outputs;
-  allowed = may.nothing (λ o. refl);
+  allowed = MayTake.nothing (λ o. refl);
 }
 
 pub ended_at_once : (first second : Moment) (words : List (List ℕ)) (r : Result Status DeskFault) → KeepsWriting first second → IsErr r → Ended first second words r
@@ -147,14 +124,14 @@ refused_ends first second third words name bytes b refusal asks source outputs_s
     let read = read_refused first second third words name bytes b refusal asks source stays refused in
     note_ends first second third words (refusal_note refusal) Refused outputs_stay
     (λ adds. inr (inr (inl (record { ended = refl; refusal = refusal; source = read; texts = adds }))))
-    (λ taken prefixes. may.note refusal read prefixes)
+    (λ taken prefixes. MayTake.note refusal read prefixes)
 
 pub fault_ends : (first second third : Moment) (words : List (List ℕ)) → KeepsWriting first second → MeetsFault first third words
     → (r : Result Status DeskFault) → IfOk r (λ s. s ≡ ReadFault) → Writes second third (only out.Notes read_fault_note) r → Ended first third words r
 fault_ends first second third words outputs_stay fault =
     note_ends first second third words read_fault_note ReadFault outputs_stay
     (λ adds. inr (inr (inr (record { ended = refl; source = fault; texts = adds }))))
-    (λ taken prefixes. may.fault fault prefixes)
+    (λ taken prefixes. MayTake.fault fault prefixes)
 
 nothing_moves : (m : Moment) → KeepsWriting m m
 nothing_moves m = record { files = refl; outputs = λ o. refl; write_faults = refl }
@@ -164,14 +141,17 @@ pub usage_ends : (first second : Moment) (words : List (List ℕ)) → AsksNothi
 usage_ends first second words asks stays =
     note_ends first first second words usage_note WrongWords (nothing_moves first)
     (λ adds. inr (inl (record { ended = refl; asks = asks; stays = stays; texts = adds })))
-    (λ taken prefixes. may.usage asks prefixes)
+    (λ taken prefixes. MayTake.usage asks prefixes)
 
 -- what was decided and written of a program
 pub found : (before after : Moment) (b : Bounds) (p : Program) (d : Decided) → AreRight (findings b p d) → (IsUndecided (findings b p d) → ⊥) → Adds before after (text_of (findings b p d)) → Finds before after b p
 found before after b p d right decided adds = record { findings = findings b p d; bounds = refl; program = refl; right = right; decided = decided; texts = adds }
 
 pub cut_finding : (before after : Moment) (b : Bounds) (p : Program) (d : Decided) → AreRight (findings b p d) → AddsPrefixes before after (text_of (findings b p d)) → IsCutFinding before after b p
-cut_finding before after b p d right h = record { taken = h.taken; adds = h.adds; right = inr (right_prefix (findings b p d) h.taken right h.prefixes) }
+cut_finding before after b p d right h = record { taken = h.taken; adds = h.adds; right = right_prefix (findings b p d) h.taken right h.prefixes }
+
+pub nothing_found_yet : (m : Moment) (b : Bounds) (p : Program) → IsCutFinding m m b p
+nothing_found_yet m b p = record { taken = λ o. []; adds = adds_nothing m m (λ o. refl); right = nothing_taken p b }
 
 -- the job of a program
 finishes : (first second third : Moment) (words : List (List ℕ)) (b : Bounds) (p : Program) → KeepsWriting first second → ReadsProgram first third words b p → Finds second third b p
@@ -196,5 +176,77 @@ program_ends first second third words name bytes b p asks source outputs_stay st
     record {
       taken = f.taken;
       adds = adds_from first second third f.taken outputs_stay f.adds;
-      allowed = elim f.right [ inl nothing ↦ may.nothing nothing | inr right ↦ may.findings b p read right ];
+      allowed = MayTake.findings b p read f.right;
     }
+
+-- the words ask for one source
+same_name : (words : List (List ℕ)) (a b : List ℕ) (d e : Bounds) → AsksGen words a d → AsksGen words b e → a ≡ b
+same_name words a b d e h k = let same : codes "gen" ∷ a ∷ [] ≡ codes "gen" ∷ b ∷ [] = sym h.said ∙ k.said in cc
+
+-- so a call that reads the source that the words ask for reads no other
+pub reads_asked : (before after : Moment) (words : List (List ℕ)) (a b : List ℕ) (d e : Bounds) → AsksGen words a d → AsksGen words b e → ReadsOnly before after a → ReadsOnly before after b
+reads_asked before after words a b d e h k = subst (ReadsOnly before after) (same_name words a b d e h k)
+
+-- what holds of each of a list's items holds of the last
+last_of : (P : Opened → Type 0) (files : List Opened) (file : Opened) → AllByRecursion P (files ++ file ∷ []) → P file
+last_of P [] file h = h.0
+last_of P (first ∷ files) file h = last_of P files file h.1
+
+-- a desk that tells its files tells what follows the bytes that were moved
+told_rest : (files : Option (List ℕ → Option (List ℕ))) (opened : List Opened) (file : Opened) (name bytes : List ℕ) → file.name ≡ name
+    → IfSome files (λ fs. All (IsOfFile fs) (opened ++ file ∷ [])) → IsSomeAnd files (λ fs. fs name ≡ Some bytes)
+    → (rest : List ℕ) × (bytes ≡ file.moved ++ rest) × (IsTrue file.ended → rest ≡ [])
+told_rest None opened file name bytes named told has = absurd has
+told_rest (Some files) opened file name bytes named told has =
+    let is_of = last_of (IsOfFile files) opened file (recursion_from_All (IsOfFile files) (opened ++ file ∷ []) told) in
+    let same : Some bytes ≡ Some (file.moved ++ is_of.rest) = sym has ∙ ap files (sym named) ∙ is_of.bytes in
+    (is_of.rest, cc, is_of.end)
+
+-- the bytes that were moved out of the first of some files
+abbrev first_moved : List Opened → List ℕ
+first_moved [] = []
+first_moved (file ∷ files) = file.moved
+
+-- the bytes of the source are those that were moved and then others, none where its end was met
+source_rest : (before after : Moment) (name bytes moved : List ℕ) (ended : Bool) → TellsTruly after → after.files ≡ before.files → HasSource before after name bytes → HasRead before after name moved ended
+    → (rest : List ℕ) × (bytes ≡ moved ++ rest) × (IsTrue ended → rest ≡ [])
+source_rest before after name bytes moved ended told files (inl has) read =
+    told_rest after.files before.opened (record { name = name; moved = moved; ended = ended }) name bytes refl
+    (subst (λ opened. IfSome after.files (λ fs. All (IsOfFile fs) opened)) read.opened told)
+    (subst (λ known. IsSomeAnd known (λ fs. fs name ≡ Some bytes)) (sym files) has)
+source_rest before after name bytes moved ended told files (inr whole) read =
+    let file : Opened = record { name = name; moved = moved; ended = ended } in
+    let other : Opened = record { name = name; moved = bytes; ended = true } in
+    let same : file ∷ [] ≡ other ∷ [] = append_left_injective before.opened (file ∷ []) (other ∷ []) (sym read.opened ∙ whole.opened) in
+    let moved_same : moved ≡ bytes = ap first_moved same in
+    ([], sym moved_same ∙ sym (append-nil moved), λ e. refl)
+
+-- a call that was not cut short finishes a source that stands for a program
+pub completes_from : (before after : Moment) (words : List (List ℕ)) (status : ℕ) → TellsTruly after → after.files ≡ before.files → Ends before after words status → Completes before after words status
+completes_from before after words status told files h = λ name bytes b p asks has stands calm. elim h [
+    | inl finishes ↦ elim finishes.ended [ inl done ↦ inl done | inr undecided ↦ inr (inl undecided) ]
+    | inr (inl misspells) ↦ absurd (misspells.asks name b asks)
+    | inr (inr (inl refuses)) ↦
+        let source = refuses.source in
+        let same = same_name words name source.name b source.bounds asks source.asks in
+        let rest = source_rest before after source.name bytes source.bytes source.ended told files (subst (λ n. HasSource before after n bytes) same has) source.read in
+        absurd (refused_or_built bytes p refuses.refusal stands (subst (λ xs. IsRefused xs refuses.refusal) (sym rest.1) (source.refused rest.0 rest.2)))
+    | inr (inr (inr fails)) ↦ absurd (calm.reads fails.source.rose)
+]
+
+-- and tells a refusal
+pub refuses_from : (before after : Moment) (words : List (List ℕ)) (status : ℕ) → TellsTruly after → after.files ≡ before.files → Ends before after words status → RefusesWhole before after words status
+refuses_from before after words status told files h = λ name bytes b refusal asks has refused calm. elim h [
+    | inl finishes ↦
+        let source = finishes.source in
+        let same = same_name words name source.name b finishes.findings.bounds asks source.asks in
+        let rest = source_rest before after source.name bytes source.bytes true told files (subst (λ n. HasSource before after n bytes) same has) source.read in
+        let whole : bytes ≡ source.bytes = rest.1 ∙ ap (λ xs. source.bytes ++ xs) (rest.2 refl) ∙ append-nil source.bytes in
+        absurd (refused_or_built bytes finishes.findings.program refusal (subst (λ xs. StandsFor xs finishes.findings.program) (sym whole) source.program) refused)
+    | inr (inl misspells) ↦ absurd (misspells.asks name b asks)
+    | inr (inr (inl refuses)) ↦ inl refuses.ended
+    | inr (inr (inr fails)) ↦ absurd (calm.reads fails.source.rose)
+]
+
+-- both, for a call that was not cut short
+pub ruleset ends = (completes_from, refuses_from)

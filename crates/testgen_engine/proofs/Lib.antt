@@ -10,6 +10,7 @@ pub mod OutputLemmas
 pub mod PrintLemmas
 pub mod ReportLemmas
 pub mod RunLemmas
+pub mod SkeletonLemmas
 pub mod SourceLemmas
 pub mod TellingLemmas
 pub mod TestTextLemmas

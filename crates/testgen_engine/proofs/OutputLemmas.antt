@@ -102,7 +102,7 @@ adds_no_prefix : (before after : Moment) (text : Out → List ℕ) → ((out : O
 adds_no_prefix before after text stays = record { taken = λ out. []; adds = adds_nothing before after stays; prefixes = λ out. record { rest = text out; whole_is = refl } }
 
 -- what one call and then a prefix of another add
-prefixes_after : (first second third : Moment) (a b : Out → List ℕ) → Adds first second a → AddsPrefixes second third b → AddsPrefixes first third (λ out. a out ++ b out)
+pub prefixes_after : (first second third : Moment) (a b : Out → List ℕ) → Adds first second a → AddsPrefixes second third b → AddsPrefixes first third (λ out. a out ++ b out)
 prefixes_after first second third a b h k = record {
   taken = λ out. a out ++ k.taken out;
   adds = adds_both first second third a k.taken h k.adds;

@@ -112,3 +112,14 @@ cause_err {S} {T} before now r s fault h e failed =
 -- a call that succeeds after one that did
 pub cause_ok : {S T : Type 0} (before now : ℕ) (x : S) (y : T) → HasCause before now (Ok x) → HasCause before now (Ok y)
 cause_ok before now x y h = record { later = h.later; failed = λ e. cc; else_stays = λ other. h.else_stays (λ same. cc) }
+
+-- so no other file is read
+pub reads_only : (first second third : Moment) (name bytes : List ℕ) → ReadsSource first second name bytes → KeepsReading second third → ReadsOnly first third name
+reads_only first second third name bytes source stays = inr (inr (bytes, source.ended, read_stays first second third name bytes source.ended source.read stays))
+
+pub fails_only : (first second third : Moment) (name : List ℕ) → FailsReading first second name → KeepsReading second third → ReadsOnly first third name
+fails_only first second third name (inl nothing) stays = inr (inl (record { asked = stays.asked ∙ nothing.asked; opened = stays.opened ∙ nothing.opened }))
+fails_only first second third name (inr read) stays = inr (inr (read.0, false, read_stays first second third name read.0 false read.1 stays))
+
+pub nothing_written : (m : Moment) → KeepsReading m m
+nothing_written m = record { files = refl; asked = refl; opened = refl; readable = refl; read_faults = refl }

@@ -20,11 +20,11 @@ pub record Finds (before after : Moment) (b : Bounds) (p : Program) : Type 0 whe
   pub decided : IsUndecided findings → ⊥
   pub texts : Adds before after (text_of findings)
 
--- nothing was added, or prefixes of what was found so far
+-- prefixes of what was found so far were added
 pub record IsCutFinding (before after : Moment) (b : Bounds) (p : Program) : Type 0 where
   pub taken : Out → List ℕ
   pub adds : Adds before after taken
-  pub right : ((out : Out) → taken out ≡ []) ⊎ IsRightPrefix p b taken
+  pub right : IsRightPrefix p b taken
 
 -- a call that nothing cuts short ends in one of these ways
 abbrev pub Ends : Moment → Moment → List (List ℕ) → ℕ → Type 0

@@ -3,7 +3,7 @@
 ghost use Rattle.std.specs.Prelude.{◌≡◌, ◌≢◌, List, ℕ, IfOk, MatchResult, map, string_bytes};
 ghost use Rattle.tg_base.specs.declared.desk.Out.TheVariants as out;
 ghost use Rattle.tg_base.specs.Faults.{HasCause};
-ghost use Rattle.tg_base.specs.Moment.{KeepsReading};
+ghost use Rattle.tg_base.specs.Moment.{KeepsReading, TellsTruly};
 ghost use Rattle.testgen_engine.specs.Ended.{Finds, IsCutFinding, Ended};
 ghost use Rattle.testgen_engine.specs.Notes.{usage_note, read_fault_note, refusal_note};
 ghost use Rattle.testgen_engine.specs.Outputs.{Writes, only};
@@ -98,9 +98,9 @@ fn tell_usage<D: Desk>(desk: &mut D) -> Result<Status, DeskFault>
 
 /// Does a job of `gen`.
 fn generate<D: Desk>(alloc: Global, job: Job<'_>, desk: &mut D) -> Result<Status, DeskFault>
-    ensures ends { (words : List (List ℕ)) → AsksGen words job.name.now job.bounds
+    ensures ends { (words : List (List ℕ)) → AsksGen words job.entry.name.now job.entry.bounds
         → Ended (D.moment desk.old) (D.moment desk.new) words result }
-    ensures reads { ReadsOnly (D.moment desk.old) (D.moment desk.new) job.name.now }
+    ensures reads { ReadsOnly (D.moment desk.old) (D.moment desk.new) job.entry.name.now }
     ensures faults { HasCause (D.moment desk.old).write_faults
         (D.moment desk.new).write_faults result }
     ensures read_faults_stay { IfOk result (λ status. status ≢ Status.ReadFault
@@ -131,6 +131,7 @@ pub fn run<D: Desk>(alloc: Global, words: &[String], desk: &mut D) -> Result<Sta
     ensures read_faults_stay { IfOk result (λ status. status ≢ Status.ReadFault
         → (D.moment desk.new).read_faults ≡ (D.moment desk.old).read_faults) }
     ensures files_stay { (D.moment desk.new).files ≡ (D.moment desk.old).files }
+    ensures told { TellsTruly (D.moment desk.new) }
 {
     match job_of(words) {
         Some(job) => generate(alloc, job, desk),

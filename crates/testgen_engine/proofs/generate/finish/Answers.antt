@@ -1,7 +1,5 @@
-use Rattle.std.proofs.Common.{inl, refl}
 use Rattle.std.proofs.lemmas.Result.{MatchResult-from_err}
-use Rattle.testgen_engine.proofs.EndLemmas.{found, cut_finding}
-use Rattle.testgen_engine.proofs.OutputLemmas.{adds_nothing}
+use Rattle.testgen_engine.proofs.EndLemmas.{found, cut_finding, nothing_found_yet}
 use Rattle.testgen_engine.proofs.generate.finish.Goals as goal
 
 pub returns-clause-writes : goal.returns-clause-writes
@@ -15,5 +13,5 @@ returns-in_err-print-clause-writes g c =
 
 pub returns-in_err-decided-clause-writes : goal.returns-in_err-decided-clause-writes
 returns-in_err-decided-clause-writes g c =
-    MatchResult-from_err c.from_residual-in_err-decided.result _ _ c.from_residual-in_err-decided.ensures.0
-    (λ _. record { taken = λ o. []; adds = adds_nothing _ _ (λ o. refl); right = inl (λ o. refl) })
+    MatchResult-from_err c.from_residual.result _ _ c.from_residual.ensures.0
+    (λ _. nothing_found_yet _ c.args.bounds c.args.program.now)
