@@ -1,5 +1,5 @@
 -- Lemmas on how a call may end.
-use Rattle.std.proofs.Common.{◌≡◌, ◌≢◌, ℕ, ◌*◌, ◌<◌, ◌≤◌, Bool, true, false, IsTrue, List, [], ◌∷◌, ◌++◌, Option, None, Some, IfSome, IsSomeAnd, All, Result, Ok, Err, IsErr, IfOk, length, inl, inr, refl, ap, sym, ◌∙◌, subst, arith, append-nil, take, lit<}
+use Rattle.std.proofs.Common.{◌≡◌, ◌≢◌, ◌⊎◌, ℕ, ◌*◌, ◌<◌, ◌≤◌, Bool, true, false, IsTrue, List, [], ◌∷◌, ◌++◌, Option, None, Some, IfSome, IsSomeAnd, All, Result, Ok, Err, IsErr, IfOk, length, inl, inr, refl, ap, sym, ◌∙◌, subst, arith, append-nil, take, lit<}
 use Rattle.std.proofs.Math.Seq.{take-append_seam}
 use Rattle.std.proofs.lemmas.Result.{MatchResult-from_err}
 use Rattle.std.proofs.lemmas.List.Elements.{recursion_from_All}
@@ -18,10 +18,11 @@ use Rattle.p4_program.specs.declared.program.Program.{Program}
 use Rattle.testgen_engine.specs.Decide.{findings}
 use Rattle.testgen_engine.specs.declared.decide.Decided.{Decided}
 use Rattle.testgen_engine.specs.declared.source.TheConstants.{MOST_BYTES}
+use Rattle.testgen_engine.specs.declared.status.TheConstants.{DONE, WRONG_WORDS, REFUSED, UNDECIDED, READ_FAULT}
 use Rattle.testgen_engine.specs.declared.status.Status.{Status}
 use Rattle.testgen_engine.specs.declared.status.Status.TheVariants.{Done, WrongWords, Refused, ReadFault}
 use Rattle.testgen_engine.specs.Ended.{Finds, IsCutFinding, Ends, Ended}
-use Rattle.testgen_engine.specs.Endings.{ReadsProgram, ReadsRefused, MeetsFault, Finishes, MayTake, IsCutShort, HasSource, CountsNoFault, Completes, RefusesWhole}
+use Rattle.testgen_engine.specs.Endings.{ReadsProgram, ReadsRefused, MeetsFault, Finishes, Misspells, Refuses, FailsToRead, MayTake, IsCutShort, HasSource, CountsNoFault, Completes, RefusesWhole}
 use Rattle.testgen_engine.specs.Findings.{AreRight, IsUndecided, IsPrefix, text_of}
 use Rattle.testgen_engine.specs.Notes.{usage_note, read_fault_note, refusal_note}
 use Rattle.testgen_engine.specs.Outputs.{Adds, ArePrefixes, AddsPrefixes, Writes, only}
@@ -248,5 +249,38 @@ refuses_from before after words status told files h = λ name bytes b refusal as
     | inr (inr (inr fails)) ↦ absurd (calm.reads fails.source.rose)
 ]
 
--- both, for a call that was not cut short
-pub ruleset ends = (completes_from, refuses_from)
+-- each status tells how a call ended that was not cut short
+pub finishes_from : (before after : Moment) (words : List (List ℕ)) (status : ℕ) → Ends before after words status → (status ≡ DONE) ⊎ (status ≡ UNDECIDED) → Finishes before after words status
+finishes_from before after words status (inl finishes) e = finishes
+finishes_from before after words status (inr (inl misspells)) e = absurd (elim e [ inl done ↦ omega (arith, misspells.ended) | inr undecided ↦ omega (arith, misspells.ended) ])
+finishes_from before after words status (inr (inr (inl refuses))) e = absurd (elim e [ inl done ↦ omega (arith, refuses.ended) | inr undecided ↦ omega (arith, refuses.ended) ])
+finishes_from before after words status (inr (inr (inr fails))) e = absurd (elim e [ inl done ↦ omega (arith, fails.ended) | inr undecided ↦ omega (arith, fails.ended) ])
+
+-- the status of a job that finished is one of two
+two_ends : (before after : Moment) (words : List (List ℕ)) (status other : ℕ) → Finishes before after words status → status ≡ other → other ≢ DONE → other ≢ UNDECIDED → ⊥
+two_ends before after words status other finishes e done undecided = elim finishes.ended [ inl f ↦ done (sym e ∙ f) | inr f ↦ undecided (sym e ∙ f) ]
+
+pub misspells_from : (before after : Moment) (words : List (List ℕ)) (status : ℕ) → Ends before after words status → status ≡ WRONG_WORDS → Misspells before after words status
+misspells_from before after words status (inl finishes) e = absurd (two_ends before after words status WRONG_WORDS finishes e (λ f. omega arith) (λ f. omega arith))
+misspells_from before after words status (inr (inl misspells)) e = misspells
+misspells_from before after words status (inr (inr (inl refuses))) e = absurd (omega (arith, refuses.ended))
+misspells_from before after words status (inr (inr (inr fails))) e = absurd (omega (arith, fails.ended))
+
+pub refusal_from : (before after : Moment) (words : List (List ℕ)) (status : ℕ) → Ends before after words status → status ≡ REFUSED → Refuses before after words status
+refusal_from before after words status (inl finishes) e = absurd (two_ends before after words status REFUSED finishes e (λ f. omega arith) (λ f. omega arith))
+refusal_from before after words status (inr (inl misspells)) e = absurd (omega (arith, misspells.ended))
+refusal_from before after words status (inr (inr (inl refuses))) e = refuses
+refusal_from before after words status (inr (inr (inr fails))) e = absurd (omega (arith, fails.ended))
+
+pub fails_from : (before after : Moment) (words : List (List ℕ)) (status : ℕ) → Ends before after words status → status ≡ READ_FAULT → FailsToRead before after words status
+fails_from before after words status (inl finishes) e = absurd (two_ends before after words status READ_FAULT finishes e (λ f. omega arith) (λ f. omega arith))
+fails_from before after words status (inr (inl misspells)) e = absurd (omega (arith, misspells.ended))
+fails_from before after words status (inr (inr (inl refuses))) e = absurd (omega (arith, refuses.ended))
+fails_from before after words status (inr (inr (inr fails))) e = fails
+
+-- words that ask for nothing are wrong words
+pub wrong_words_from : (before after : Moment) (words : List (List ℕ)) (status : ℕ) → Ends before after words status → AsksNothing words → status ≡ WRONG_WORDS
+wrong_words_from before after words status (inl finishes) none = absurd (none finishes.source.name finishes.findings.bounds finishes.source.asks)
+wrong_words_from before after words status (inr (inl misspells)) none = misspells.ended
+wrong_words_from before after words status (inr (inr (inl refuses))) none = absurd (none refuses.source.name refuses.source.bounds refuses.source.asks)
+wrong_words_from before after words status (inr (inr (inr fails))) none = absurd (none fails.source.name fails.source.bounds fails.source.asks)

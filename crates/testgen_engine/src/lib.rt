@@ -46,7 +46,6 @@ use tg_base::{Desk, DeskFault};
 ///
 /// The words are those of the command line without the program's name. The clauses compare the
 /// desk's moment before the call with that behind it.
-#[tactic(auto, using(crate::proofs::EndLemmas::ends))]
 pub fn testgen<D: Desk>(alloc: Global, words: &[String], desk: &mut D) -> u8
     ensures statuses { result ≤ OUT_OF_MEMORY }
 
