@@ -1,5 +1,5 @@
 -- Lemmas on what a job adds to each output: the tests, and then the report.
-use Rattle.std.proofs.Common.{◌≡◌, ℕ, ◌+◌, ◌<◌, false, List, [], ◌∷◌, ◌++◌, Option, inl, inr, length, get_or, drop, refl, ap, sym, ◌∙◌, subst, append-nil, add-one, arith}
+use Rattle.std.proofs.Common.{◌≡◌, ℕ, ◌+◌, ◌<◌, false, List, [], ◌∷◌, ◌++◌, inl, inr, length, get_or, drop, refl, ap, sym, ◌∙◌, subst, append-nil, add-one, arith}
 use Rattle.std.proofs.Math.Seq.{drop-cons}
 use Prim.Native.Nat.{zero, suc}
 use Rattle.std.proofs.Math.Dec.{eqb}
@@ -8,13 +8,14 @@ use Rattle.std.proofs.lemmas.Bool.Decides.{eqb_tells}
 use Rattle.std.specs.List.{slice_get}
 use Rattle.tg_base.specs.declared.desk.Out.{Out}
 use Rattle.tg_base.specs.declared.desk.Out.TheVariants as out
+use Rattle.tg_base.specs.Moment.{Moment}
 use Rattle.p4_program.specs.declared.bounds.Bounds.{Bounds}
 use Rattle.p4_program.specs.declared.program.Program.{Program}
 use Rattle.p4_meaning.specs.declared.test.Test.{Test}
 use Rattle.p4_meaning.specs.declared.verdict.Verdict.{Verdict}
 use Rattle.p4_meaning.specs.Verdicts.{credits}
 use Rattle.testgen_engine.specs.Findings.{Findings, text_of}
-use Rattle.testgen_engine.specs.Outputs.{is_same, only, Adds, AddsFronts}
+use Rattle.testgen_engine.specs.Outputs.{is_same, only, Adds, AddsPrefixes}
 use Rattle.testgen_engine.specs.Printing.{tests_text}
 use Rattle.testgen_engine.specs.Report.{report_text}
 use Rattle.testgen_engine.specs.TestText.{test_text, text_of_test}
@@ -59,11 +60,11 @@ tests_go_on p verdicts tests place t within is o =
     ∙ ap (λ n. only (out.Test n) (test_text p n (credits verdicts n) t) o ++ tests_text p verdicts (suc n) (drop n tests) o) (sym (add-one place))
 
 -- what was added, with the verdicts and tests by equations
-pub tests_adds : (p : Program) (old new : Out → Option (List ℕ)) (vs ws : List Verdict) (ts us : List Test) → vs ≡ ws → ts ≡ us → Adds old new (tests_text p vs 1 ts) → Adds old new (tests_text p ws 1 us)
-tests_adds p old new vs ws ts us e f h = subst (λ xs. Adds old new (tests_text p xs 1 us)) e (subst (λ xs. Adds old new (tests_text p vs 1 xs)) f h)
+pub tests_adds : (p : Program) (before after : Moment) (vs ws : List Verdict) (ts us : List Test) → vs ≡ ws → ts ≡ us → Adds before after (tests_text p vs 1 ts) → Adds before after (tests_text p ws 1 us)
+tests_adds p before after vs ws ts us e f h = subst (λ xs. Adds before after (tests_text p xs 1 us)) e (subst (λ xs. Adds before after (tests_text p vs 1 xs)) f h)
 
-pub tests_fronts : (p : Program) (old new : Out → Option (List ℕ)) (vs ws : List Verdict) (ts us : List Test) → vs ≡ ws → ts ≡ us → AddsFronts old new (tests_text p vs 1 ts) → AddsFronts old new (tests_text p ws 1 us)
-tests_fronts p old new vs ws ts us e f h = subst (λ xs. AddsFronts old new (tests_text p xs 1 us)) e (subst (λ xs. AddsFronts old new (tests_text p vs 1 xs)) f h)
+pub tests_prefixes : (p : Program) (before after : Moment) (vs ws : List Verdict) (ts us : List Test) → vs ≡ ws → ts ≡ us → AddsPrefixes before after (tests_text p vs 1 ts) → AddsPrefixes before after (tests_text p ws 1 us)
+tests_prefixes p before after vs ws ts us e f h = subst (λ xs. AddsPrefixes before after (tests_text p xs 1 us)) e (subst (λ xs. AddsPrefixes before after (tests_text p vs 1 xs)) f h)
 
 pub report_is : (b : Bounds) (p : Program) (bytes text : List ℕ) (vs ws : List Verdict) (ts us : List Test) → bytes ≡ text → text ≡ report_text b p vs ts → vs ≡ ws → ts ≡ us → bytes ≡ report_text b p ws us
 report_is b p bytes text vs ws ts us e f g h = e ∙ f ∙ ap (λ xs. report_text b p xs ts) g ∙ ap (λ xs. report_text b p ws xs) h
