@@ -9,8 +9,8 @@ at_one f v a x h p = h ∙ ap f p
 pub at_two : {A B C : Type 0} (f : A → B → C) (v : C) (a x : A) (b y : B) → v ≡ f a b → a ≡ x → b ≡ y → v ≡ f x y
 at_two f v a x b y h p q = h ∙ ap (λ n. f n b) p ∙ ap (f x) q
 
-pub some-injective : {A : Type 0} (v b : A) → Some v ≡ Some b → v ≡ b
-some-injective v b same = cc
+pub some_injective : {A : Type 0} (v b : A) → Some v ≡ Some b → v ≡ b
+some_injective v b same = cc
 
 -- the value that was chosen has the width of both, and the number of the one that the flag names
 pub chosen_width : (f : Bool) (a b v : Bits) → a.width ≡ b.width → v ≡ (if f then a else b) → v.width ≡ a.width
