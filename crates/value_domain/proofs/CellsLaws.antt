@@ -3,9 +3,9 @@
 use Rattle.std.proofs.Common.{◌≡◌, ℕ, suc, zero, ◌<◌, List, [], ◌∷◌, ◌++◌, length, get_or, set, take, drop, refl, ap, ◌∙◌, arith}
 use Rattle.std.specs.Prelude.{Bool, Some, slice_get}
 use Rattle.std.specs.List.{All, AllZip}
-use Rattle.std.proofs.lemmas.List.Elements.{All-cons, All-head, All-tail, All-get_or, All-set, All-append, All-weaker}
+use Rattle.std.proofs.lemmas.List.Elements.{All-cons, All-head, All-tail, All-get_or, All-set, All-append, All-weaker, All-take, All-drop}
 use Rattle.bits_core.specs.declared.points.Point.{Point}
-use Rattle.value_domain.specs.Cells.{IsCell, AreCells, StandForAll, AreFlags, FlagsStandForAll, OffersAll}
+use Rattle.value_domain.specs.Cells.{HasWidth, AreCells, HaveWidth, HaveWidths, StandForAll, AreFlags, FlagsStandForAll, OffersAll}
 use Rattle.value_domain.specs.Extends.{Extends}
 use Rattle.value_domain.specs.Meaning.{Meaning}
 
@@ -75,53 +75,95 @@ all_left K R step (x ∷ xs) (y ∷ ys) h = All-cons K x xs (step x y h.0) (all_
 -- ---- cells
 
 module _ {Val Flag : Type 0} {m : Meaning Val Flag} where
-  -- each cell is one of the domain's values
-  cells_known : {cells : List Val} {widths : List ℕ} → AreCells m cells widths → All m.has cells
-  cells_known {cells} {widths} h = all_left m.has (IsCell m) (λ v w known. known.has) cells widths h.each
+  pub cells_of_width : {cells : List Val} {w : ℕ} → HaveWidth m cells w → AreCells m cells
+  cells_of_width {cells} {w} h = record { each = All-weaker (λ v. HasWidth m v w) m.has (λ v known. known.has) cells h.each }
 
-  pub are_cells_length : {cells : List Val} {widths : List ℕ} → AreCells m cells widths → length cells ≡ length widths
-  are_cells_length {cells} {widths} h = zip_length (IsCell m) cells widths h.each
+  pub cells_of_widths : {cells : List Val} {widths : List ℕ} → HaveWidths m cells widths → AreCells m cells
+  cells_of_widths {cells} {widths} h = record { each = all_left m.has (HasWidth m) (λ v w known. known.has) cells widths h.each }
+
+  pub have_widths_length : {cells : List Val} {widths : List ℕ} → HaveWidths m cells widths → length cells ≡ length widths
+  have_widths_length {cells} {widths} h = zip_length (HasWidth m) cells widths h.each
 
   pub stand_for_all_length : {cells : List Val} {p : Point} {numbers : List ℕ} → StandForAll m cells p numbers →
       length cells ≡ length numbers
   stand_for_all_length {cells} {p} {numbers} h = zip_length (λ v x. m.stands v p x) cells numbers h.each
 
-  pub are_cells_at : {cells : List Val} {widths : List ℕ} (i : ℕ) (d : Val) (e : ℕ) → AreCells m cells widths →
-      i < length cells → IsCell m (get_or cells i d) (get_or widths i e)
-  are_cells_at {cells} {widths} i d e h within = zip_at (IsCell m) cells widths i d e h.each within
+  -- ---- at an index
+
+  pub are_cells_at : {cells : List Val} (i : ℕ) (d : Val) → AreCells m cells → i < length cells → m.has (get_or cells i d)
+  are_cells_at {cells} i d h within = All-get_or m.has cells i d within h.each
+
+  pub have_width_at : {cells : List Val} {w : ℕ} (i : ℕ) (d : Val) → HaveWidth m cells w → i < length cells →
+      HasWidth m (get_or cells i d) w
+  have_width_at {cells} {w} i d h within = All-get_or (λ v. HasWidth m v w) cells i d within h.each
+
+  pub have_widths_at : {cells : List Val} {widths : List ℕ} (i : ℕ) (d : Val) (e : ℕ) → HaveWidths m cells widths →
+      i < length cells → HasWidth m (get_or cells i d) (get_or widths i e)
+  have_widths_at {cells} {widths} i d e h within = zip_at (HasWidth m) cells widths i d e h.each within
 
   pub stand_for_all_at : {cells : List Val} {p : Point} {numbers : List ℕ} (i : ℕ) (d : Val) (e : ℕ) →
       StandForAll m cells p numbers → i < length cells → m.stands (get_or cells i d) p (get_or numbers i e)
   stand_for_all_at {cells} {p} {numbers} i d e h within = zip_at (λ v x. m.stands v p x) cells numbers i d e h.each within
 
-  -- a write keeps the widths where the new value has that of the place
-  pub are_cells_set : {cells : List Val} {widths : List ℕ} (i : ℕ) (v : Val) (e : ℕ) → AreCells m cells widths →
-      IsCell m v (get_or widths i e) → AreCells m (set cells i v) widths
-  are_cells_set {cells} {widths} i v e h known = record { each = zip_set_left (IsCell m) cells widths i v e h.each known }
+  -- ---- past a write, which keeps the widths where the new value has that of the place
+
+  pub are_cells_set : {cells : List Val} (i : ℕ) (v : Val) → AreCells m cells → m.has v → AreCells m (set cells i v)
+  are_cells_set {cells} i v h known = record { each = All-set m.has cells i v known h.each }
+
+  pub have_width_set : {cells : List Val} {w : ℕ} (i : ℕ) (v : Val) → HaveWidth m cells w → HasWidth m v w →
+      HaveWidth m (set cells i v) w
+  have_width_set {cells} {w} i v h known = record { each = All-set (λ v. HasWidth m v w) cells i v known h.each }
+
+  pub have_widths_set : {cells : List Val} {widths : List ℕ} (i : ℕ) (v : Val) (e : ℕ) → HaveWidths m cells widths →
+      HasWidth m v (get_or widths i e) → HaveWidths m (set cells i v) widths
+  have_widths_set {cells} {widths} i v e h known = record { each = zip_set_left (HasWidth m) cells widths i v e h.each known }
 
   pub stand_for_all_set : {cells : List Val} {p : Point} {numbers : List ℕ} (i : ℕ) (v : Val) (x : ℕ) →
       StandForAll m cells p numbers → m.stands v p x → StandForAll m (set cells i v) p (set numbers i x)
   stand_for_all_set {cells} {p} {numbers} i v x h s =
       record { each = zip_set (λ v x. m.stands v p x) cells numbers i v x h.each s }
 
-  pub are_cells_append : {cells more : List Val} {widths also : List ℕ} → AreCells m cells widths → AreCells m more also →
-      AreCells m (cells ++ more) (widths ++ also)
-  are_cells_append {cells} {more} {widths} {also} h k = record { each = zip_append (IsCell m) cells widths more also h.each k.each }
+  -- ---- joined, and in part
+
+  pub are_cells_append : {cells more : List Val} → AreCells m cells → AreCells m more → AreCells m (cells ++ more)
+  are_cells_append {cells} {more} h k = record { each = All-append m.has cells more h.each k.each }
+
+  pub have_width_append : {cells more : List Val} {w : ℕ} → HaveWidth m cells w → HaveWidth m more w → HaveWidth m (cells ++ more) w
+  have_width_append {cells} {more} {w} h k = record { each = All-append (λ v. HasWidth m v w) cells more h.each k.each }
+
+  pub have_widths_append : {cells more : List Val} {widths also : List ℕ} → HaveWidths m cells widths → HaveWidths m more also →
+      HaveWidths m (cells ++ more) (widths ++ also)
+  have_widths_append {cells} {more} {widths} {also} h k =
+      record { each = zip_append (HasWidth m) cells widths more also h.each k.each }
 
   pub stand_for_all_append : {cells more : List Val} {p : Point} {numbers also : List ℕ} → StandForAll m cells p numbers →
       StandForAll m more p also → StandForAll m (cells ++ more) p (numbers ++ also)
   stand_for_all_append {cells} {more} {p} {numbers} {also} h k =
       record { each = zip_append (λ v x. m.stands v p x) cells numbers more also h.each k.each }
 
-  pub are_cells_take : {cells : List Val} {widths : List ℕ} (n : ℕ) → AreCells m cells widths → AreCells m (take n cells) (take n widths)
-  are_cells_take {cells} {widths} n h = record { each = zip_take (IsCell m) n cells widths h.each }
+  pub are_cells_take : {cells : List Val} (n : ℕ) → AreCells m cells → AreCells m (take n cells)
+  are_cells_take {cells} n h = record { each = All-take m.has n cells h.each }
+
+  pub are_cells_drop : {cells : List Val} (n : ℕ) → AreCells m cells → AreCells m (drop n cells)
+  are_cells_drop {cells} n h = record { each = All-drop m.has n cells h.each }
+
+  pub have_width_take : {cells : List Val} {w : ℕ} (n : ℕ) → HaveWidth m cells w → HaveWidth m (take n cells) w
+  have_width_take {cells} {w} n h = record { each = All-take (λ v. HasWidth m v w) n cells h.each }
+
+  pub have_width_drop : {cells : List Val} {w : ℕ} (n : ℕ) → HaveWidth m cells w → HaveWidth m (drop n cells) w
+  have_width_drop {cells} {w} n h = record { each = All-drop (λ v. HasWidth m v w) n cells h.each }
+
+  pub have_widths_take : {cells : List Val} {widths : List ℕ} (n : ℕ) → HaveWidths m cells widths →
+      HaveWidths m (take n cells) (take n widths)
+  have_widths_take {cells} {widths} n h = record { each = zip_take (HasWidth m) n cells widths h.each }
+
+  pub have_widths_drop : {cells : List Val} {widths : List ℕ} (n : ℕ) → HaveWidths m cells widths →
+      HaveWidths m (drop n cells) (drop n widths)
+  have_widths_drop {cells} {widths} n h = record { each = zip_drop (HasWidth m) n cells widths h.each }
 
   pub stand_for_all_take : {cells : List Val} {p : Point} {numbers : List ℕ} (n : ℕ) → StandForAll m cells p numbers →
       StandForAll m (take n cells) p (take n numbers)
   stand_for_all_take {cells} {p} {numbers} n h = record { each = zip_take (λ v x. m.stands v p x) n cells numbers h.each }
-
-  pub are_cells_drop : {cells : List Val} {widths : List ℕ} (n : ℕ) → AreCells m cells widths → AreCells m (drop n cells) (drop n widths)
-  are_cells_drop {cells} {widths} n h = record { each = zip_drop (IsCell m) n cells widths h.each }
 
   pub stand_for_all_drop : {cells : List Val} {p : Point} {numbers : List ℕ} (n : ℕ) → StandForAll m cells p numbers →
       StandForAll m (drop n cells) p (drop n numbers)
@@ -164,27 +206,37 @@ get_of_prefix (z ∷ xs) ys (suc i) x h = get_of_prefix xs ys i x h
 -- ---- along a step of the domain
 
 module _ {Val Flag : Type 0} {old new : Meaning Val Flag} where
-  pub is_cell_extends : {v : Val} {w : ℕ} → Extends old new → IsCell old v w → IsCell new v w
-  is_cell_extends {v} step known = record { has = step.values v known.has; is_wide = step.widths v known.has ∙ known.is_wide }
+  pub has_width_extends : {v : Val} {w : ℕ} → Extends old new → HasWidth old v w → HasWidth new v w
+  has_width_extends {v} step known = record { has = step.values v known.has; is_wide = step.widths v known.has ∙ known.is_wide }
 
-  pub are_cells_extends : {cells : List Val} {widths : List ℕ} → Extends old new → AreCells old cells widths → AreCells new cells widths
-  are_cells_extends {cells} {widths} step h = record {
-    each = zip_weaker old.has (IsCell old) (IsCell new) (λ v w known cell. is_cell_extends step cell) cells widths (cells_known h) h.each;
+  pub are_cells_extends : {cells : List Val} → Extends old new → AreCells old cells → AreCells new cells
+  are_cells_extends {cells} step h = record { each = All-weaker old.has new.has (λ v known. step.values v known) cells h.each }
+
+  pub have_width_extends : {cells : List Val} {w : ℕ} → Extends old new → HaveWidth old cells w → HaveWidth new cells w
+  have_width_extends {cells} {w} step h = record {
+    each = All-weaker (λ v. HasWidth old v w) (λ v. HasWidth new v w) (λ v known. has_width_extends step known) cells h.each;
   }
 
-  pub stand_for_all_extends : {cells : List Val} {widths : List ℕ} {p : Point} {numbers : List ℕ} → Extends old new →
-      AreCells old cells widths → StandForAll old cells p numbers → StandForAll new cells p numbers
-  stand_for_all_extends {cells} {widths} {p} {numbers} step known h = record {
+  pub have_widths_extends : {cells : List Val} {widths : List ℕ} → Extends old new → HaveWidths old cells widths →
+      HaveWidths new cells widths
+  have_widths_extends {cells} {widths} step h = record {
+    each = zip_weaker old.has (HasWidth old) (HasWidth new) (λ v w known cell. has_width_extends step cell)
+        cells widths (cells_of_widths h).each h.each;
+  }
+
+  pub stand_for_all_extends : {cells : List Val} {p : Point} {numbers : List ℕ} → Extends old new → AreCells old cells →
+      StandForAll old cells p numbers → StandForAll new cells p numbers
+  stand_for_all_extends {cells} {p} {numbers} step known h = record {
     each = zip_weaker old.has (λ v x. old.stands v p x) (λ v x. new.stands v p x) (λ v x has s. (step.numbers v p x has).1 s)
-        cells numbers (cells_known known) h.each;
+        cells numbers known.each h.each;
   }
 
   -- no cell gains a number
-  pub stand_for_all_before : {cells : List Val} {widths : List ℕ} {p : Point} {numbers : List ℕ} → Extends old new →
-      AreCells old cells widths → StandForAll new cells p numbers → StandForAll old cells p numbers
-  stand_for_all_before {cells} {widths} {p} {numbers} step known h = record {
+  pub stand_for_all_before : {cells : List Val} {p : Point} {numbers : List ℕ} → Extends old new → AreCells old cells →
+      StandForAll new cells p numbers → StandForAll old cells p numbers
+  stand_for_all_before {cells} {p} {numbers} step known h = record {
     each = zip_weaker old.has (λ v x. new.stands v p x) (λ v x. old.stands v p x) (λ v x has s. (step.numbers v p x has).0 s)
-        cells numbers (cells_known known) h.each;
+        cells numbers known.each h.each;
   }
 
   pub are_flags_extends : {flags : List Flag} → Extends old new → AreFlags old flags → AreFlags new flags

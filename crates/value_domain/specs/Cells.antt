@@ -5,13 +5,21 @@ use Rattle.bits_core.specs.declared.points.Point.{Point}
 use Rattle.value_domain.specs.Meaning.{Meaning}
 
 -- a value of the domain that has this many bits
-pub record IsCell {Val Flag : Type 0} (m : Meaning Val Flag) (v : Val) (width : ℕ) : Type 0 where
+pub record HasWidth {Val Flag : Type 0} (m : Meaning Val Flag) (v : Val) (width : ℕ) : Type 0 where
   pub has : m.has v
   pub is_wide : m.width_of v ≡ width
 
--- each cell is a value of the domain and has the width at its place
-pub record AreCells {Val Flag : Type 0} (m : Meaning Val Flag) (cells : List Val) (widths : List ℕ) : Type 0 where
-  pub each : AllZip (IsCell m) cells widths
+-- each is a value of the domain
+pub record AreCells {Val Flag : Type 0} (m : Meaning Val Flag) (cells : List Val) : Type 0 where
+  pub each : All m.has cells
+
+-- each is a value of the domain and has this width
+pub record HaveWidth {Val Flag : Type 0} (m : Meaning Val Flag) (cells : List Val) (width : ℕ) : Type 0 where
+  pub each : All (λ v. HasWidth m v width) cells
+
+-- each is a value of the domain and has the width at its place
+pub record HaveWidths {Val Flag : Type 0} (m : Meaning Val Flag) (cells : List Val) (widths : List ℕ) : Type 0 where
+  pub each : AllZip (HasWidth m) cells widths
 
 -- each cell stands at the point for the number at its place
 pub record StandForAll {Val Flag : Type 0} (m : Meaning Val Flag) (cells : List Val) (p : Point) (numbers : List ℕ) : Type 0 where
