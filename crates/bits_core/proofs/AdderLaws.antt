@@ -82,7 +82,7 @@ add_by_ripple xs ys e =
     number_of_ripple_sum xs ys false e ∙ ap (λ (n : ℕ). n % 2 ^ length xs) (add-zero (number_of xs + number_of ys))
 
 -- x - y is x and y with its bits turned round, and 1
-not_and_one : (x y p : ℕ) → y < p → x + (p - 1 - y) + 1 ≡ x + (p - y)
+pub not_and_one : (x y p : ℕ) → y < p → x + (p - 1 - y) + 1 ≡ x + (p - y)
 not_and_one x y p fits = omega arith
 
 pub subtract_by_ripple : (xs ys : List Bool) → length xs ≡ length ys →

@@ -1,12 +1,13 @@
 -- The two readings between a number and the list of its bits.
 use Rattle.std.proofs.Common.{◌≡◌, ℕ, zero, suc, ◌+◌, ◌-◌, ◌*◌, ◌/◌, ◌%◌, ◌^◌, ◌<◌, ◌≤◌, Bool, true, false, List, [], ◌∷◌, ◌++◌, length, take, drop, get_or, replicate, refl, sym, ap, ◌∙◌, subst, arith, ⊎_elim}
 use Rattle.std.specs.Prelude.{map, not, ◌==◌}
+use Rattle.std.specs.Int.{bit_at}
 use Rattle.std.proofs.Math.Nat.{pow-succ', mod-eq_of_lt, div-eq_of_lt}
 use Rattle.std.proofs.lemmas.Bool.{cases_lt}
 use Rattle.std.proofs.lemmas.List.{length-take-le, take-append-drop, take_all, drop_all, drop_more}
 use Rattle.std.proofs.lemmas.Nat.{mod-pow-add, shr_high, mod_low, le-div, pow_pos}
 use Rattle.std.proofs.lemmas.Nat.Bits.{bit_at_lowest, bit_at-suc}
-use Rattle.bits_core.specs.BitList.{bit, bit_value, number_of, bits_of, sign_bit}
+use Rattle.bits_core.specs.BitList.{bit_value, number_of, bits_of, sign_bit}
 use Rattle.bits_core.proofs.WidthLaws.{pow_le}
 
 pub number_of_below : (bs : List Bool) → number_of bs < 2 ^ length bs
@@ -93,19 +94,19 @@ bits_of_number_of (b ∷ bs) =
     rw (odd_of b (number_of bs), half_of b (number_of bs)) (ap (λ (rest : List Bool). b ∷ rest) (bits_of_number_of bs))
 
 -- the bit at a place
-pub get_or_bits_of : (w x place : ℕ) → place < w → get_or (bits_of w x) place false ≡ bit x place
+pub get_or_bits_of : (w x place : ℕ) → place < w → get_or (bits_of w x) place false ≡ (bit_at x place == 1)
 unfolding bits_of
 get_or_bits_of zero x place within = absurd (omega arith)
 get_or_bits_of (suc w) x zero within = ap (λ (n : ℕ). n == 1) (sym (bit_at_lowest x))
 get_or_bits_of (suc w) x (suc place) within =
     get_or_bits_of w (x / 2) place (omega arith) ∙ ap (λ (n : ℕ). n == 1) (sym (bit_at-suc x place))
 
-pub bit_number_of : (bs : List Bool) (place : ℕ) → bit (number_of bs) place ≡ get_or bs place false
-bit_number_of [] place = grind arith
-bit_number_of (b ∷ bs) zero = ap (λ (n : ℕ). n == 1) (bit_at_lowest (bit_value b + 2 * number_of bs)) ∙ odd_of b (number_of bs)
-bit_number_of (b ∷ bs) (suc place) =
+pub bit_at_number_of : (bs : List Bool) (place : ℕ) → (bit_at (number_of bs) place == 1) ≡ get_or bs place false
+bit_at_number_of [] place = grind arith
+bit_at_number_of (b ∷ bs) zero = ap (λ (n : ℕ). n == 1) (bit_at_lowest (bit_value b + 2 * number_of bs)) ∙ odd_of b (number_of bs)
+bit_at_number_of (b ∷ bs) (suc place) =
     ap (λ (n : ℕ). n == 1) (bit_at-suc (bit_value b + 2 * number_of bs) place)
-    ∙ ap (λ (n : ℕ). bit n place) (half_of b (number_of bs)) ∙ bit_number_of bs place
+    ∙ ap (λ (n : ℕ). bit_at n place == 1) (half_of b (number_of bs)) ∙ bit_at_number_of bs place
 
 -- ---- the sign
 

@@ -1,11 +1,14 @@
 pub mod AdderLaws
 pub mod BitListLaws
 pub mod BitwiseLaws
+pub mod CarryLaws
 pub mod ComparatorLaws
 pub mod MultiplierLaws
 pub mod NumberLaws
 pub mod PartLaws
+pub mod PlaceLaws
 pub mod RowLaws
+pub mod SameBelowLaws
 pub mod SaturationLaws
 pub mod ShifterLaws
 pub mod SignLaws

@@ -74,8 +74,10 @@ operator_value Mul w x v y = (x * y) % 2 ^ w
 -- -2^h to 2^h - 1 that is nearest to z.
 operator_value AddSatU w x v y = min (x + y) (2 ^ w - 1)
 operator_value SubSatU w x v y = x - y
-operator_value AddSatS w x v y = wrapped w (saturate_to_bits (w - 1) (signed_value w x +ℤ signed_value w y))
-operator_value SubSatS w x v y = wrapped w (saturate_to_bits (w - 1) (signed_value w x -ℤ signed_value w y))
+operator_value AddSatS w x v y =
+    wrapped w (saturate_to_bits (w - 1) (signed_value w x +ℤ signed_value w y))
+operator_value SubSatS w x v y =
+    wrapped w (saturate_to_bits (w - 1) (signed_value w x -ℤ signed_value w y))
 -- In the same sections: `&`, `|`, `^` and `~` work bit by bit, and the unary `-` is 0 less its operand.
 operator_value And w x v y = bit_and x y
 operator_value Or w x v y = bit_or x y
