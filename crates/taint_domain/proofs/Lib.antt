@@ -1,4 +1,4 @@
-pub mod Places
-pub mod Precision
-pub mod Soundness
-pub mod Stands
+pub mod BitwiseLemmas
+pub mod MayBeLemmas
+pub mod MovedLemmas
+pub mod ResultsLemmas

@@ -1,4 +1,3 @@
 pub mod Flag
-pub mod Masks
-pub mod Precision
+pub mod Results
 pub mod Tainted
