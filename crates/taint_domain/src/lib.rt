@@ -8,6 +8,8 @@
 #![tactic(auto)]
 
 mod flag;
+mod places;
+mod sums;
 mod tainted;
 
 pub use flag::TaintFlag;
