@@ -1,6 +1,9 @@
 pub mod BitwiseLemmas
 pub mod ChoiceLemmas
+pub mod EqualityLemmas
 pub mod MayBeLemmas
 pub mod MovedLemmas
+pub mod ProductLemmas
 pub mod ResultsLemmas
 pub mod SumLemmas
+pub mod TestLemmas

@@ -7,8 +7,10 @@
 //! saturation and shifts by a masked amount no other.
 #![tactic(auto)]
 
+mod comparisons;
 mod flag;
 mod places;
+mod products;
 mod sums;
 mod tainted;
 
