@@ -1,6 +1,7 @@
 pub mod BitwiseLemmas
 pub mod ChoiceLemmas
 pub mod EqualityLemmas
+pub mod MaskLemmas
 pub mod MayBeLemmas
 pub mod MovedLemmas
 pub mod ProductLemmas

@@ -1,3 +1,4 @@
 pub mod Flag
+pub mod Masks
 pub mod Results
 pub mod Tainted

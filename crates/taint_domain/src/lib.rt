@@ -9,6 +9,7 @@
 
 mod comparisons;
 mod flag;
+mod masks;
 mod places;
 mod products;
 mod sums;

@@ -28,7 +28,7 @@ pub(crate) fn of_multiply(a: &Tainted, b: &Tainted) -> Bits
     let by_first = lowest_place(a.mask) + lowest_place(b.greatest());
     let by_second = lowest_place(b.mask) + lowest_place(a.greatest());
     let width = a.number.width;
-    from_place(width, if by_first < by_second { by_first } else { by_second })
+    from_place(width, by_first.min(by_second))
 }
 
 /// The place of the lowest bit, or that past all.
