@@ -275,3 +275,7 @@ pub test_mask : (op : Op) (a b : Tainted) (m : ℕ) (r : Bool) → shape_of op �
     (IsTrue r ↔ TestOf op a b (not (test_value op a.number.width a.number.value b.number.value))) → IsMaskOf op a b m
 unfolding number_of_test
 test_mask op a b m r shape other e told = test_mask_by op a b m r shape other e told
+
+pub no_product : (op : Op) → shape_of op ≡ Test → op ≢ Mul
+no_product Mul shape e = absurd (cc)
+no_product op shape e = absurd (cc)

@@ -42,5 +42,7 @@ returns-clause-settled c =
     product_settled c.args.a.now c.args.b.now c.from_place.result.value _ _ _ _ _ c.requires
     (first_lowest c) (first_zeros c) (second_lowest c) (second_zeros c)
     (record { below = c.from_place.ensures.below; above = c.from_place.ensures.above })
-    (least_of_two (c.lowest_place.result + c.lowest_place-2.result) (c.lowest_place-3.result + c.lowest_place-4.result))
+    (subst (λ (n : ℕ). (n ≡ c.lowest_place.result + c.lowest_place-2.result) ⊎ (n ≡ c.lowest_place-3.result + c.lowest_place-4.result))
+    (sym c.min.ensures)
+    (least_of_two (c.lowest_place.result + c.lowest_place-2.result) (c.lowest_place-3.result + c.lowest_place-4.result)))
     (subst (λ (w : ℕ). c.from_place.result.value < 2 ^ w) c.from_place.ensures.width c.from_place.result.fits)
