@@ -6,5 +6,6 @@ pub mod MayBeLemmas
 pub mod MovedLemmas
 pub mod ProductLemmas
 pub mod ResultsLemmas
+pub mod StandsLemmas
 pub mod SumLemmas
 pub mod TestLemmas

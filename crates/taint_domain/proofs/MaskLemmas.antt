@@ -1,5 +1,5 @@
 -- From the mask of a row of the table to what is promised of it.
-use Rattle.std.proofs.Common.{◌≡◌, ◌≢◌, ℕ, zero, suc, ◌+◌, ◌-◌, ◌*◌, ◌/◌, ◌%◌, ◌^◌, ◌<◌, ◌≤◌, Bool, true, false, refl, sym, ap, ◌∙◌, subst, arith, ⊎_elim}
+use Rattle.std.proofs.Common.{◌≡◌, ◌≢◌, ℕ, zero, suc, ◌+◌, ◌-◌, ◌*◌, ◌/◌, ◌%◌, ◌^◌, ◌<◌, ◌≤◌, Bool, true, false, refl, sym, ap, ◌∙◌, subst, arith, ◌⊎◌, ⊎_elim}
 use Rattle.std.specs.Prelude.{◌↔◌, IsTrue, not, if◌then◌else◌}
 use Rattle.std.specs.Int.{bit_at}
 use Rattle.std.proofs.lemmas.Bool.{cases_lt, cases_eq}
@@ -279,3 +279,14 @@ test_mask op a b m r shape other e told = test_mask_by op a b m r shape other e 
 pub no_product : (op : Op) → shape_of op ≡ Test → op ≢ Mul
 no_product Mul shape e = absurd (cc)
 no_product op shape e = absurd (cc)
+
+pub saturating_row : (op : Op) (a b : Tainted) (m : ℕ) → WidthsFit (shape_of op) a.number.width b.number.width →
+    (op ≡ AddSatU) ⊎ ((op ≡ SubSatU) ⊎ ((op ≡ AddSatS) ⊎ (op ≡ SubSatS))) → IsAllOrNone a b m → IsMaskOf op a b m
+saturating_row op a b m fits row is =
+    let P : Op → Type 0 = λ o. WidthsFit (shape_of o) a.number.width b.number.width → IsMaskOf o a b m in
+    let of = λ (o : Op) (shape : shape_of o ≡ Same) (other : o ≢ Mul) (loose : HasLeastMask o b → ⊥) (e : op ≡ o).
+        subst P (sym e) (λ h. saturating_mask o a b m h shape other loose is) fits in
+    ⊎_elim (of AddSatU refl (λ e. absurd (cc)) (λ h. h))
+    (⊎_elim (of SubSatU refl (λ e. absurd (cc)) (λ h. h))
+    (⊎_elim (of AddSatS refl (λ e. absurd (cc)) (λ h. h)) (of SubSatS refl (λ e. absurd (cc)) (λ h. h))))
+    row

@@ -13,7 +13,9 @@ mod masks;
 mod places;
 mod products;
 mod sums;
+mod taint_domain;
 mod tainted;
 
 pub use flag::TaintFlag;
+pub use taint_domain::TaintDomain;
 pub use tainted::Tainted;

@@ -4,7 +4,7 @@ use Rattle.taint_domain.specs.Masks.{IsMaskOf}
 use Rattle.taint_domain.specs.Results.{ResultOf, MasksAll, MasksOnly}
 use Rattle.taint_domain.proofs.BitwiseLemmas.{xor_masks_all, xor_masks_only}
 use Rattle.taint_domain.proofs.MovedLemmas.{cat_masks_all, cat_masks_only}
-use Rattle.taint_domain.proofs.MaskLemmas.{valued, least_mask, product_mask, not_mask, neg_mask}
+use Rattle.taint_domain.proofs.MaskLemmas.{valued, IsAllOrNone, saturating_row, least_mask, product_mask, not_mask, neg_mask}
 use Rattle.taint_domain.proofs.masks.of_operator.Goals as goal
 
 pub returns-in-Add-clause-mask : goal.returns-in-Add-clause-mask
@@ -23,7 +23,9 @@ returns-in-Mul-clause-mask c =
     (product_mask c.args.a.now c.args.b.now _ c.of_multiply.ensures.all c.of_multiply.ensures.settled)
 
 pub returns-in-AddSatU-clause-mask : goal.returns-in-AddSatU-clause-mask
-returns-in-AddSatU-clause-mask c = ?
+returns-in-AddSatU-clause-mask c =
+    saturating_row c.args.op c.args.a.now c.args.b.now c.of_saturating.result.value c.requires c.in-AddSatU.is
+    (record { clear = c.of_saturating.ensures.clear; every = c.of_saturating.ensures.every })
 
 pub returns-in-And-clause-mask : goal.returns-in-And-clause-mask
 returns-in-And-clause-mask c =
