@@ -11,7 +11,7 @@ use Rattle.bits_core.proofs.PlaceLaws.{bit_at_turned}
 use Rattle.taint_domain.specs.declared.tainted.Tainted.{Tainted}
 use Rattle.taint_domain.specs.Results.{ResultOf, CanDiffer, MasksAll, MasksOnly}
 use Rattle.taint_domain.specs.Tainted.{IsSameOutside, MayBe}
-use Rattle.taint_domain.proofs.MayBeLemmas.{mask_fits, may_own, may_have_bit, flipped, flipped_same, may_flipped}
+use Rattle.taint_domain.proofs.MayBeLemmas.{may_own, may_have_bit, flipped, flipped_same, may_flipped}
 use Rattle.taint_domain.proofs.ResultsLemmas.{masks_all}
 
 -- ---- exclusive or
@@ -49,8 +49,11 @@ xor_masks_only a b = record {
       (λ (masked : 1 ≤ bit_at a.mask.value i). record {
         z = bit_xor (flipped n i) k;
         of = record {
-          x = flipped n i; y = k;
-          first = may_flipped a i (omega (arith, bit_at-lt a.mask.value i)); second = may_own b; is = refl;
+          x = flipped n i;
+          y = k;
+          first = may_flipped a i (omega (arith, bit_at-lt a.mask.value i));
+          second = may_own b;
+          is = refl;
         };
         differs = λ same.
             absurd (omega (arith, bit_at_xor (flipped n i) k i, bit_at_xor n k i, flipped_same n i, bit_at-lt n i, bit_at-lt k i));
@@ -67,13 +70,13 @@ and_mask a b =
 
 pub and_mask_is : (a b : Tainted) → and_mask a b
     ≡ bit_and (bit_or a.mask.value b.mask.value)
-      (bit_and (bit_or a.number.value a.mask.value) (bit_or b.number.value b.mask.value))
+    (bit_and (bit_or a.number.value a.mask.value) (bit_or b.number.value b.mask.value))
 unfolding and_mask
 and_mask_is a b = refl
 
 bit_at_and_mask : (a b : Tainted) (i : ℕ) → bit_at (and_mask a b) i
     ≡ min (max (bit_at a.mask.value i) (bit_at b.mask.value i))
-      (min (max (bit_at a.number.value i) (bit_at a.mask.value i)) (max (bit_at b.number.value i) (bit_at b.mask.value i)))
+    (min (max (bit_at a.number.value i) (bit_at a.mask.value i)) (max (bit_at b.number.value i) (bit_at b.mask.value i)))
 unfolding and_mask
 bit_at_and_mask a b i =
     let n = a.number.value in
@@ -242,7 +245,7 @@ module _ (a b c d : Tainted) (width : a.number.width ≡ b.number.width) (first 
       or_is_turned w_of a.number.value b.number.value a.number.fits (second_fits b.number.value b.number.fits)
       ∙ ap (λ (n : ℕ). turn w_of (bit_and n (turn w_of b.number.value))) (sym (own_turn a c first))
       ∙ ap (λ (n : ℕ). turn w_of (bit_and c.number.value n))
-        (ap (λ (k : ℕ). turn k b.number.value) width ∙ sym (own_turn b d second))
+      (ap (λ (k : ℕ). turn k b.number.value) width ∙ sym (own_turn b d second))
 
   both_fit : (u v : ℕ) → u < 2 ^ c.number.width → bit_and u v < 2 ^ w_of
   both_fit u v h = let e : 2 ^ c.number.width ≡ 2 ^ w_of = ap (λ (k : ℕ). 2 ^ k) first.width in omega (arith, and_le_l u v)
@@ -263,7 +266,7 @@ module _ (a b c d : Tainted) (width : a.number.width ≡ b.number.width) (first 
               can.differs
               (ap (λ (n : ℕ). bit_at n i) (can.of.is ∙ or_is_turned w_of x y can.of.first.fits (second_fits y can.of.second.fits))
               ∙ turn_same w_of u (bit_and c.number.value d.number.value) i
-                (both_fit (turn w_of x) (turn w_of y) fx.fits) (both_fit c.number.value d.number.value c.number.fits) same
+              (both_fit (turn w_of x) (turn w_of y) fx.fits) (both_fit c.number.value d.number.value c.number.fits) same
               ∙ ap (λ (n : ℕ). bit_at n i) (sym own_turned));
         });
   }
@@ -296,7 +299,7 @@ module _ (a b c d : Tainted) (width : a.number.width ≡ b.number.width) (first 
               can.differs
               (ap (λ (n : ℕ). bit_at n i) (can.of.is ∙ sym (turn_turn w_of u small))
               ∙ turn_same w_of (turn w_of u) (turn w_of own) i (turn_fits w_of u) (turn_fits w_of own)
-                (same ∙ ap (λ (n : ℕ). bit_at n i) own_turned)
+              (same ∙ ap (λ (n : ℕ). bit_at n i) own_turned)
               ∙ ap (λ (n : ℕ). bit_at n i) (turn_turn w_of own own_small));
         };
   }

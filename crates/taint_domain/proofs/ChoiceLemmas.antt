@@ -47,7 +47,12 @@ first_masks_only f a b truth =
           record {
             z = x;
             of = record {
-              t = f.truth; x = x; y = b.number.value; flag = own_flag f; first = may_flipped a i set; second = may_own b;
+              t = f.truth;
+              x = x;
+              y = b.number.value;
+              flag = own_flag f;
+              first = may_flipped a i set;
+              second = may_own b;
               is = ap (λ t. if t then x else b.number.value) (sym truth);
             };
             differs = flipped_differs a.number.value i;
@@ -63,7 +68,12 @@ second_masks_only f a b truth =
           record {
             z = y;
             of = record {
-              t = f.truth; x = a.number.value; y = y; flag = own_flag f; first = may_own a; second = may_flipped b i set;
+              t = f.truth;
+              x = a.number.value;
+              y = y;
+              flag = own_flag f;
+              first = may_own a;
+              second = may_flipped b i set;
               is = ap (λ t. if t then a.number.value else y) (sym truth);
             };
             differs = flipped_differs b.number.value i;

@@ -2,13 +2,13 @@
 use Rattle.std.proofs.Common.{◌≡◌, ◌≢◌, ℕ, ◌+◌, ◌-◌, ◌%◌, ◌^◌, ◌<◌, ◌≤◌, Bool, true, false, refl, sym, ap, ◌∙◌, subst, arith, ⊎_elim}
 use Rattle.std.specs.Prelude.{◌==◌, min, max, not, bit_and, bit_or, bit_xor}
 use Rattle.std.specs.Int.{bit_at}
-use Rattle.std.proofs.lemmas.Bool.{cases_lt, cases_eq, eqb-true, eqb-false, eq-eqb}
+use Rattle.std.proofs.lemmas.Bool.{cases_lt, cases_eq, eqb-true, eq-eqb}
 use Rattle.std.proofs.lemmas.Nat.{xor_lt, or_lt, and_le_r}
 use Rattle.std.proofs.lemmas.Nat.Bits.{bit_at_and, bit_at_or, bit_at_xor, bit_at-lt, bit_at-zero, same_from_bits}
 use Rattle.bits_core.specs.declared.operator.Op.TheVariants.{Eq}
 use Rattle.taint_domain.specs.declared.tainted.Tainted.{Tainted}
 use Rattle.taint_domain.specs.Results.{TestOf}
-use Rattle.taint_domain.specs.Tainted.{IsSameOutside, MayBe}
+use Rattle.taint_domain.specs.Tainted.{MayBe}
 use Rattle.taint_domain.proofs.MayBeLemmas.{mask_fits, may_own, clear_may, least_of, bit_at_least, may_least}
 
 -- the bits in which the numbers differ are all masked
@@ -98,17 +98,26 @@ equal_differs_by a b true width is some own =
     let same : n ≡ k = eqb-true n k own in
     ⊎_elim
     (λ (clear : a.mask.value ≡ 0). record {
-      x = n; y = bit_xor k b.mask.value; first = may_own a; second = all_flipped b;
+      x = n;
+      y = bit_xor k b.mask.value;
+      first = may_own a;
+      second = all_flipped b;
       is = sym (not_equal n (bit_xor k b.mask.value)
           (λ e. some (no_masks a b clear (xor_moves k b.mask.value (sym e ∙ same)))));
     })
     (λ (masked : a.mask.value ≡ 0 → ⊥). record {
-      x = bit_xor n a.mask.value; y = k; first = all_flipped a; second = may_own b;
+      x = bit_xor n a.mask.value;
+      y = k;
+      first = all_flipped a;
+      second = may_own b;
       is = sym (not_equal (bit_xor n a.mask.value) k (λ e. masked (xor_moves n a.mask.value (e ∙ sym same))));
     })
     (cases_eq a.mask.value 0)
 equal_differs_by a b false width is some own = record {
-  x = mixed a b; y = mixed a b; first = may_first a b; second = may_second a b width is;
+  x = mixed a b;
+  y = mixed a b;
+  first = may_first a b;
+  second = may_second a b width is;
   is = sym (eq-eqb (mixed a b) (mixed a b) refl);
 }
 

@@ -1,6 +1,7 @@
 pub mod BitwiseLemmas
 pub mod ChoiceLemmas
 pub mod EqualityLemmas
+pub mod MaskLaws
 pub mod MaskLemmas
 pub mod MayBeLemmas
 pub mod MovedLemmas

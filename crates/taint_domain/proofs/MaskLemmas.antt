@@ -1,18 +1,18 @@
 -- From the mask of a row of the table to what is promised of it.
-use Rattle.std.proofs.Common.{◌≡◌, ◌≢◌, ℕ, zero, suc, ◌+◌, ◌-◌, ◌*◌, ◌/◌, ◌%◌, ◌^◌, ◌<◌, ◌≤◌, Bool, true, false, refl, sym, ap, ◌∙◌, subst, arith, ◌⊎◌, ⊎_elim}
+use Rattle.std.proofs.Common.{◌≡◌, ◌≢◌, ℕ, zero, suc, ◌+◌, ◌-◌, ◌%◌, ◌^◌, ◌<◌, ◌≤◌, Bool, true, false, refl, sym, ap, ◌∙◌, subst, arith, ◌⊎◌, ⊎_elim}
 use Rattle.std.specs.Prelude.{◌↔◌, IsTrue, not, if◌then◌else◌}
 use Rattle.std.specs.Int.{bit_at}
 use Rattle.std.proofs.lemmas.Bool.{cases_lt, cases_eq}
 use Rattle.std.proofs.lemmas.Nat.Bits.{bit_at_above, bit_at_lowest, bit_at-lt, bit_at-zero, same_from_bits}
 use Rattle.bits_core.specs.declared.operator.Op.{Op}
-use Rattle.bits_core.specs.declared.operator.Op.TheVariants.{Add, Sub, Mul, AddSatU, SubSatU, AddSatS, SubSatS, And, Or, Xor, Not, Neg, Shl, ShrU, ShrS, Cat, Eq, LtU, LeU, LtS, LeS}
+use Rattle.bits_core.specs.declared.operator.Op.TheVariants.{Sub, Mul, AddSatU, SubSatU, AddSatS, SubSatS, Not, Neg, Shl, ShrU, ShrS}
 use Rattle.bits_core.specs.declared.operator.OpShape.TheVariants.{Same, Shift, Test}
 use Rattle.bits_core.specs.Operator.{WidthsFit, shape_of, result_width, operator_value, test_value}
 use Rattle.bits_core.proofs.RowLaws.{operator_value_below, operator_value_test}
 use Rattle.taint_domain.specs.declared.tainted.Tainted.{Tainted}
 use Rattle.taint_domain.specs.Masks.{HasLeastMask, IsMaskOf}
-use Rattle.taint_domain.specs.Results.{ResultOf, ImageOf, TestOf, CanDiffer, MasksAll, MasksOnly}
-use Rattle.taint_domain.specs.Tainted.{IsSameOutside, MayBe, IsClear, IsSettledBelow, IsZeroBelow}
+use Rattle.taint_domain.specs.Results.{ResultOf, TestOf, MasksAll, MasksOnly}
+use Rattle.taint_domain.specs.Tainted.{MayBe, IsClear, IsSettledBelow, IsZeroBelow}
 use Rattle.taint_domain.proofs.MayBeLemmas.{may_own, clear_may}
 use Rattle.taint_domain.proofs.MovedLemmas.{moved_masks_all, moved_masks_only, not_moved, shl_moved, shr_unsigned_moved, shr_signed_moved, shifted_masks_all, shifted_masks_only}
 use Rattle.taint_domain.proofs.ResultsLemmas.{masks_all, same_outside_ones}
@@ -98,14 +98,17 @@ neg_mask none a b m width value clear all only =
     ap (λ (n : ℕ). operator_value Sub none.number.width n a.number.width a.number.value) value
     ∙ ap (λ (k : ℕ). operator_value Neg k a.number.value b.number.width b.number.value) width in
     let result = λ (x y : ℕ) (may : MayBe none x).
-        ap (λ (n : ℕ). operator_value Sub none.number.width n a.number.width y) (clear_may none x clear may ∙ value)
-        ∙ ap (λ (k : ℕ). operator_value Neg k y b.number.width b.number.value) width in
+    ap (λ (n : ℕ). operator_value Sub none.number.width n a.number.width y) (clear_may none x clear may ∙ value)
+    ∙ ap (λ (k : ℕ). operator_value Neg k y b.number.width b.number.value) width in
     least_mask Neg a b m (λ e. absurd (cc))
     (record {
       bits = λ i can. all.bits i (record {
         z = can.z;
         of = record {
-          x = none.number.value; y = can.of.x; first = may_own none; second = can.of.first;
+          x = none.number.value;
+          y = can.of.x;
+          first = may_own none;
+          second = can.of.first;
           is = can.of.is ∙ sym (result none.number.value can.of.x (may_own none));
         };
         differs = λ same. can.differs (same ∙ ap (λ (n : ℕ). bit_at n i) own);
@@ -117,7 +120,10 @@ neg_mask none a b m width value clear all only =
           record {
             z = can.z;
             of = record {
-              x = can.of.y; y = b.number.value; first = can.of.second; second = may_own b;
+              x = can.of.y;
+              y = b.number.value;
+              first = can.of.second;
+              second = may_own b;
               is = can.of.is ∙ result can.of.x can.of.y can.of.first;
             };
             differs = λ same. can.differs (same ∙ ap (λ (n : ℕ). bit_at n i) (sym own));
@@ -132,7 +138,7 @@ every_masks_all : (op : Op) (a b : Tainted) (m : ℕ) → WidthsFit (shape_of op
 every_masks_all op a b m fits width e =
     let w = a.number.width in
     let bound = λ (x y : ℕ) (h : x < 2 ^ w) (k : y < 2 ^ b.number.width).
-        subst (λ (n : ℕ). operator_value op w x b.number.width y < 2 ^ n) width (operator_value_below op w x b.number.width y fits h k) in
+    subst (λ (n : ℕ). operator_value op w x b.number.width y < 2 ^ n) width (operator_value_below op w x b.number.width y fits h k) in
     subst (MasksAll (ResultOf op a b) (valued op a b)) (sym e)
     (masks_all (ResultOf op a b) (valued op a b) (2 ^ w - 1) (λ z of.
     same_outside_ones w (valued op a b) z (bound a.number.value b.number.value a.number.fits b.number.fits)
@@ -243,7 +249,11 @@ test_mask_by op a b m r shape other e told =
           let differs : number_of_test u ≢ number_of_test own =
           λ same. can.differs (ap (λ (n : ℕ). bit_at n i) (z_is ∙ same ∙ sym own_is)) in
           let is : r ≡ true = told.1 (record {
-            x = can.of.x; y = can.of.y; first = can.of.first; second = can.of.second; is = sym (other_test u own differs);
+            x = can.of.x;
+            y = can.of.y;
+            first = can.of.first;
+            second = can.of.second;
+            is = sym (other_test u own differs);
           }) in
           ⊎_elim
           (λ (low : i < 1). omega (arith, one_if r m e is, bit_at_lowest m, place_zero m i low))
@@ -285,7 +295,7 @@ pub saturating_row : (op : Op) (a b : Tainted) (m : ℕ) → WidthsFit (shape_of
 saturating_row op a b m fits row is =
     let P : Op → Type 0 = λ o. WidthsFit (shape_of o) a.number.width b.number.width → IsMaskOf o a b m in
     let of = λ (o : Op) (shape : shape_of o ≡ Same) (other : o ≢ Mul) (loose : HasLeastMask o b → ⊥) (e : op ≡ o).
-        subst P (sym e) (λ h. saturating_mask o a b m h shape other loose is) fits in
+    subst P (sym e) (λ h. saturating_mask o a b m h shape other loose is) fits in
     ⊎_elim (of AddSatU refl (λ e. absurd (cc)) (λ h. h))
     (⊎_elim (of SubSatU refl (λ e. absurd (cc)) (λ h. h))
     (⊎_elim (of AddSatS refl (λ e. absurd (cc)) (λ h. h)) (of SubSatS refl (λ e. absurd (cc)) (λ h. h))))

@@ -1,5 +1,5 @@
 -- Operations that move bits, or turn them round, move the mask with them.
-use Rattle.std.proofs.Common.{◌≡◌, ◌≢◌, ℕ, ◌+◌, ◌-◌, ◌*◌, ◌%◌, ◌^◌, ◌<◌, ◌≤◌, Bool, true, false, min, refl, sym, ap, ◌∙◌, subst, arith, ⊎_elim}
+use Rattle.std.proofs.Common.{◌≡◌, ℕ, ◌+◌, ◌-◌, ◌^◌, ◌<◌, ◌≤◌, Bool, true, false, min, refl, sym, ap, ◌∙◌, subst, arith, ⊎_elim}
 use Rattle.std.specs.Prelude.{pos, nat_lt, if◌then◌else◌}
 use Rattle.std.specs.Int.{bit_at}
 use Rattle.std.proofs.lemmas.Bool.{cases_lt}
@@ -8,14 +8,14 @@ use Rattle.std.proofs.lemmas.Nat.Bits.{bit_at_cat_low, bit_at_cat_high, bit_at-l
 use Rattle.bits_core.specs.declared.operator.Op.{Op}
 use Rattle.bits_core.specs.declared.operator.Op.TheVariants.{Not, Shl, ShrU, ShrS, Cat}
 use Rattle.bits_core.specs.Number.{slice_value, extend_value, signed_value}
-use Rattle.bits_core.specs.Operator.{WidthsFit, shape_of, result_width, operator_value}
+use Rattle.bits_core.specs.Operator.{operator_value}
 use Rattle.bits_core.proofs.PlaceLaws.{bit_at_turned, bit_at_slice_value, bit_at_extend_value_unsigned, bit_at_extend_value_signed, bit_at_shl, bit_at_shr, bit_at_shr_signed}
 use Rattle.bits_core.proofs.RowLaws.{operator_value_below}
 use Rattle.bits_core.proofs.WidthLaws.{wrapped_below}
 use Rattle.taint_domain.specs.declared.tainted.Tainted.{Tainted}
-use Rattle.taint_domain.specs.Results.{ResultOf, ImageOf, CanDiffer, MasksAll, MasksOnly}
+use Rattle.taint_domain.specs.Results.{ResultOf, ImageOf, MasksAll, MasksOnly}
 use Rattle.taint_domain.specs.Tainted.{IsSameOutside, MayBe, IsClear}
-use Rattle.taint_domain.proofs.MayBeLemmas.{mask_fits, place_within, may_own, clear_may, flipped, flipped_same, flipped_differs, may_flipped}
+use Rattle.taint_domain.proofs.MayBeLemmas.{mask_fits, place_within, may_own, clear_may, flipped, flipped_differs, may_flipped}
 use Rattle.taint_domain.proofs.ResultsLemmas.{masks_all, same_outside_below}
 
 -- f gives at each of its places below `out` what h gives of the operand's bit at one place, and the mask has the bit of that place

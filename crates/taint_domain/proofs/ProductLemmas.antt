@@ -1,5 +1,5 @@
 -- The masks of products: what zeros at the end settle.
-use Rattle.std.proofs.Common.{◌≡◌, ◌≢◌, ℕ, ◌+◌, ◌-◌, ◌*◌, ◌%◌, ◌^◌, ◌<◌, ◌≤◌, refl, sym, ap, ◌∙◌, subst, arith, ◌⊎◌, inl, inr, ⊎_elim}
+use Rattle.std.proofs.Common.{◌≡◌, ◌≢◌, ℕ, ◌+◌, ◌*◌, ◌%◌, ◌^◌, ◌<◌, ◌≤◌, sym, ap, ◌∙◌, subst, arith, ◌⊎◌, inl, inr, ⊎_elim}
 use Rattle.std.specs.Int.{bit_at}
 use Rattle.std.proofs.Math.Nat.{mul_comm}
 use Rattle.std.proofs.lemmas.Bool.{cases_lt, cases_eq}
@@ -13,7 +13,7 @@ use Rattle.bits_core.proofs.SameBelowLaws.{same_below_bits, bit_at_same_below, s
 use Rattle.taint_domain.specs.declared.tainted.Tainted.{Tainted}
 use Rattle.taint_domain.specs.Results.{ResultOf, MasksAll}
 use Rattle.taint_domain.specs.Tainted.{IsSameOutside, MayBe, IsSettledBelow, IsZeroBelow}
-use Rattle.taint_domain.proofs.MayBeLemmas.{mask_fits, may_own, flipped, flipped_differs, may_flipped, greatest_of, may_greatest, greatest_over}
+use Rattle.taint_domain.proofs.MayBeLemmas.{may_own, flipped, flipped_differs, may_flipped, greatest_of, may_greatest, greatest_over}
 use Rattle.taint_domain.proofs.ResultsLemmas.{masks_all, same_outside_below}
 
 -- the lowest bit of n is at the place, and there is none where n is 0
@@ -118,9 +118,9 @@ module _ (a b : Tainted) (m s z t u place : ℕ) (width : a.number.width ≡ b.n
       (λ (within : at < a.number.width).
       let small : at < 128 = omega (arith, a.number.at_most_128) in
       let by_first = enough at i j s z small below (as_many a.mask.value s i first (λ h lt. settled_unmasked a i h by lt))
-          (as_many (greatest_of b) z j zeros (λ h lt. zero_bits b j h zero lt)) in
+      (as_many (greatest_of b) z j zeros (λ h lt. zero_bits b j h zero lt)) in
       let by_second = enough at k l t u small under (as_many b.mask.value t k second (λ h lt. settled_unmasked b k h other lt))
-          (as_many (greatest_of a) u l ends (λ h lt. zero_bits a l h none lt)) in
+      (as_many (greatest_of a) u l ends (λ h lt. zero_bits a l h none lt)) in
       from.below at (⊎_elim (λ (e : place ≡ s + z). omega arith) (λ (e : place ≡ t + u). omega arith) is))
       (λ (past : a.number.width ≤ at). bit_at_above m a.number.width at fits past)
       (cases_lt at a.number.width)

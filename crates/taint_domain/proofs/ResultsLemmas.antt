@@ -1,11 +1,10 @@
 -- From what holds of each member of a set to its mask, and from the mask back.
-use Rattle.std.proofs.Common.{◌≡◌, ◌≢◌, ℕ, ◌-◌, ◌^◌, ◌<◌, ◌≤◌, sym, ap, ◌∙◌, subst, arith, ⊎_elim}
+use Rattle.std.proofs.Common.{◌≡◌, ℕ, ◌-◌, ◌^◌, ◌<◌, ◌≤◌, sym, ◌∙◌, arith, ⊎_elim}
 use Rattle.std.specs.Int.{bit_at}
 use Rattle.std.proofs.lemmas.Bool.{cases_lt, cases_eq}
 use Rattle.std.proofs.lemmas.Nat.Bits.{bit_at_above, bit_at_ones, bit_at-lt}
-use Rattle.taint_domain.specs.declared.tainted.Tainted.{Tainted}
-use Rattle.taint_domain.specs.Results.{CanDiffer, MasksAll}
-use Rattle.taint_domain.specs.Tainted.{IsSameOutside, MayBe}
+use Rattle.taint_domain.specs.Results.{MasksAll}
+use Rattle.taint_domain.specs.Tainted.{IsSameOutside}
 
 -- where each member has n's bits outside the mask, the mask has all that differ
 pub masks_all : (set : ℕ → Type 0) (n m : ℕ) → ((z : ℕ) → set z → IsSameOutside m n z) → MasksAll set n m

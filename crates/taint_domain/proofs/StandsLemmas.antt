@@ -1,21 +1,21 @@
 -- What the result of an operation stands for, from its number and its mask.
-use Rattle.std.proofs.Common.{◌≡◌, ◌≢◌, ℕ, zero, suc, ◌+◌, ◌-◌, ◌%◌, ◌^◌, ◌<◌, Bool, true, false, List, [], ◌∷◌, refl, sym, ap, ◌∙◌, subst, arith, Some}
+use Rattle.std.proofs.Common.{◌≡◌, ℕ, zero, suc, ◌-◌, ◌^◌, ◌<◌, Bool, true, false, List, [], ◌∷◌, refl, sym, ap, ◌∙◌, subst, arith, Some}
 use Rattle.std.specs.Prelude.{◌↔◌, IsTrue, not, slice_get, if◌then◌else◌}
 use Rattle.std.specs.Int.{bit_at}
 use Rattle.std.specs.List.{All}
 use Rattle.std.proofs.lemmas.List.Elements.{All-head, All-tail}
 use Rattle.bits_core.specs.declared.number.Bits.{Bits}
 use Rattle.bits_core.specs.declared.operator.Op.{Op}
-use Rattle.bits_core.specs.declared.operator.OpShape.TheVariants.{One, Test}
+use Rattle.bits_core.specs.declared.operator.OpShape.TheVariants.{One}
 use Rattle.bits_core.specs.declared.points.Point.{Point}
 use Rattle.bits_core.specs.Operator.{WidthsFit, shape_of, result_width, operator_value, test_value}
 use Rattle.bits_core.proofs.RowLaws.{operator_value_below}
 use Rattle.taint_domain.specs.declared.flag.TaintFlag.{TaintFlag}
 use Rattle.taint_domain.specs.declared.tainted.Tainted.{Tainted}
-use Rattle.taint_domain.specs.Flag.{FlagMayBe, FlagStandsFor}
+use Rattle.taint_domain.specs.Flag.{FlagStandsFor}
 use Rattle.taint_domain.specs.Masks.{IsMaskOf}
 use Rattle.taint_domain.specs.Results.{ResultOf, ImageOf, ChoiceOf, TestOf, CombinationOf, MasksAll}
-use Rattle.taint_domain.specs.Tainted.{IsSameOutside, MayBe, StandsFor, IsClear, ReadsAreZero}
+use Rattle.taint_domain.specs.Tainted.{IsSameOutside, StandsFor, ReadsAreZero}
 use Rattle.taint_domain.proofs.ResultsLemmas.{same_where_masked, same_outside_ones}
 
 -- ---- values

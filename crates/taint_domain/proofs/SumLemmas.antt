@@ -1,11 +1,11 @@
 -- The masks of sums and differences: a bit differs where one of an operand does, or where the carry into it does, which is least
 -- for the least operands and greatest for the greatest.
-use Rattle.std.proofs.Common.{◌≡◌, ◌≢◌, ℕ, zero, suc, ◌+◌, ◌-◌, ◌/◌, ◌%◌, ◌^◌, ◌<◌, ◌≤◌, refl, sym, ap, ◌∙◌, subst, arith, ⊎_elim}
+use Rattle.std.proofs.Common.{◌≡◌, ◌≢◌, ℕ, zero, suc, ◌+◌, ◌-◌, ◌%◌, ◌^◌, ◌<◌, ◌≤◌, refl, sym, ap, ◌∙◌, subst, arith, ⊎_elim}
 use Rattle.std.specs.Prelude.{max, bit_or, bit_xor}
 use Rattle.std.specs.Int.{bit_at}
 use Rattle.std.proofs.lemmas.Bool.{cases_lt, cases_eq}
 use Rattle.std.proofs.lemmas.Nat.{or_lt, xor_lt}
-use Rattle.std.proofs.lemmas.Nat.Bits.{bit_at_above, bit_at_or, bit_at_xor, bit_at-lt}
+use Rattle.std.proofs.lemmas.Nat.Bits.{bit_at_or, bit_at_xor, bit_at-lt}
 use Rattle.bits_core.specs.declared.operator.Op.{Op}
 use Rattle.bits_core.specs.declared.operator.Op.TheVariants.{Add, Sub}
 use Rattle.bits_core.specs.Operator.{operator_value}
@@ -107,13 +107,13 @@ module _ {f : ℕ → ℕ → ℕ} {a b : Tainted} {g : ℕ → ℕ} {c low high
       let own_low = (may_least a).outside.bits i p in
       sum.place x y i other.fits within
       ∙ between_same i x (g y) c (least_of a) (g low) (greatest_of a) (g high) sum.small
-        (λ j h. (least_under a x j may, greatest_over a x j may))
-        (λ j h. (sum.over_low y j other (omega arith), sum.under_high y j other (omega arith)))
-        (may.outside.bits i p ∙ sym own_low)
-        ((may_greatest a).outside.bits i p ∙ sym own_low)
-        (sum.same y low i other.fits low_fits within (other.outside.bits i q ∙ sym (sum.low_may.outside.bits i q)))
-        (sum.same high low i high_fits low_fits within (sum.high_may.outside.bits i q ∙ sym (sum.low_may.outside.bits i q)))
-        (sym (sum.place (least_of a) low i low_fits within) ∙ ends ∙ sum.place (greatest_of a) high i high_fits within)
+      (λ j h. (least_under a x j may, greatest_over a x j may))
+      (λ j h. (sum.over_low y j other (omega arith), sum.under_high y j other (omega arith)))
+      (may.outside.bits i p ∙ sym own_low)
+      ((may_greatest a).outside.bits i p ∙ sym own_low)
+      (sum.same y low i other.fits low_fits within (other.outside.bits i q ∙ sym (sum.low_may.outside.bits i q)))
+      (sum.same high low i high_fits low_fits within (sum.high_may.outside.bits i q ∙ sym (sum.low_may.outside.bits i q)))
+      (sym (sum.place (least_of a) low i low_fits within) ∙ ends ∙ sum.place (greatest_of a) high i high_fits within)
       ∙ sym (sum.place (least_of a) low i low_fits within)
 
   sum_outside : (x y : ℕ) → MayBe a x → MayBe b y → IsSameOutside (sum_mask f a b low high) (f a.number.value b.number.value) (f x y)
@@ -122,7 +122,7 @@ module _ {f : ℕ → ℕ → ℕ} {a b : Tainted} {g : ℕ → ℕ} {c low high
       (sum.fits a.number.value b.number.value a.number.fits b.number.fits) (sum.fits x y may.fits other.fits)
       (λ i within clear.
       let bits : max ((bit_at (f (least_of a) low) i + bit_at (f (greatest_of a) high) i) % 2)
-          (max (bit_at a.mask.value i) (bit_at b.mask.value i)) ≡ 0 = sym (bit_at_sum_mask i) ∙ clear in
+      (max (bit_at a.mask.value i) (bit_at b.mask.value i)) ≡ 0 = sym (bit_at_sum_mask i) ∙ clear in
       let ends : bit_at (f (least_of a) low) i ≡ bit_at (f (greatest_of a) high) i =
       omega (arith, bit_at-lt (f (least_of a) low) i, bit_at-lt (f (greatest_of a) high) i) in
       as_least x y i may other within (omega arith) (omega arith) ends
@@ -206,7 +206,7 @@ module _ (op : Op) {a b : Tainted} {g : ℕ → ℕ} {c low high : ℕ} (sum : I
         let f = valued op a b in
         let within : i < a.number.width = place_within a.number.width (sum_mask f a b low high) i sum_mask_fits set in
         let bits : max ((bit_at (f (least_of a) low) i + bit_at (f (greatest_of a) high) i) % 2)
-            (max (bit_at a.mask.value i) (bit_at b.mask.value i)) ≡ 1 = sym (bit_at_sum_mask sum i) ∙ set in
+        (max (bit_at a.mask.value i) (bit_at b.mask.value i)) ≡ 1 = sym (bit_at_sum_mask sum i) ∙ set in
         ⊎_elim
         (λ (clear : bit_at a.mask.value i < 1).
         ⊎_elim
@@ -273,7 +273,7 @@ sub_sum a b width =
 -- a mask that is made of the two ends, for the ends that make the operator's result least and greatest
 pub add_masks_all : (a b : Tainted) (m : ℕ) → a.number.width ≡ b.number.width →
     m ≡ bit_or (bit_xor (valued Add a b (least_of a) (least_of b)) (valued Add a b (greatest_of a) (greatest_of b)))
-        (bit_or a.mask.value b.mask.value) →
+    (bit_or a.mask.value b.mask.value) →
     MasksAll (ResultOf Add a b) (valued Add a b a.number.value b.number.value) m
 unfolding sum_mask
 add_masks_all a b m width e =
@@ -281,7 +281,7 @@ add_masks_all a b m width e =
 
 pub add_masks_only : (a b : Tainted) (m : ℕ) → a.number.width ≡ b.number.width →
     m ≡ bit_or (bit_xor (valued Add a b (least_of a) (least_of b)) (valued Add a b (greatest_of a) (greatest_of b)))
-        (bit_or a.mask.value b.mask.value) →
+    (bit_or a.mask.value b.mask.value) →
     MasksOnly (ResultOf Add a b) (valued Add a b a.number.value b.number.value) m
 unfolding sum_mask
 add_masks_only a b m width e =
@@ -289,7 +289,7 @@ add_masks_only a b m width e =
 
 pub sub_masks_all : (a b : Tainted) (m : ℕ) → a.number.width ≡ b.number.width →
     m ≡ bit_or (bit_xor (valued Sub a b (least_of a) (greatest_of b)) (valued Sub a b (greatest_of a) (least_of b)))
-        (bit_or a.mask.value b.mask.value) →
+    (bit_or a.mask.value b.mask.value) →
     MasksAll (ResultOf Sub a b) (valued Sub a b a.number.value b.number.value) m
 unfolding sum_mask
 sub_masks_all a b m width e =
@@ -297,7 +297,7 @@ sub_masks_all a b m width e =
 
 pub sub_masks_only : (a b : Tainted) (m : ℕ) → a.number.width ≡ b.number.width →
     m ≡ bit_or (bit_xor (valued Sub a b (least_of a) (greatest_of b)) (valued Sub a b (greatest_of a) (least_of b)))
-        (bit_or a.mask.value b.mask.value) →
+    (bit_or a.mask.value b.mask.value) →
     MasksOnly (ResultOf Sub a b) (valued Sub a b a.number.value b.number.value) m
 unfolding sum_mask
 sub_masks_only a b m width e =

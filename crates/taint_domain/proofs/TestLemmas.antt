@@ -1,12 +1,12 @@
 -- Which tests may come out otherwise: orders from the ends of the operands, signed ones with the sign bits turned round, equality
 -- from the bits in which the numbers differ.
 use Rattle.std.proofs.Common.{◌≡◌, ◌≢◌, ℕ, ℤ, pos, ◌+◌, ◌-◌, ◌*◌, ◌%◌, ◌^◌, ◌<◌, ◌≤◌, Bool, true, false, refl, sym, ap, ◌∙◌, subst, arith, ⊎_elim}
-use Rattle.std.specs.Prelude.{◌↔◌, ◌==◌, ◌+ℤ◌, ◌-ℤ◌, min, max, not, IsTrue, nat_lt, nat_le, int_lt, int_le, bit_and, bit_or, bit_xor, if◌then◌else◌}
+use Rattle.std.specs.Prelude.{◌↔◌, ◌+ℤ◌, ◌-ℤ◌, not, IsTrue, nat_lt, nat_le, bit_xor}
 use Rattle.std.specs.Int.{bit_at}
-use Rattle.std.proofs.lemmas.Bool.{cases_lt, cases_eq, ltb-true, ltb-false, lt-ltb, le-ltb, eqb-true, eqb-false, eq-eqb}
+use Rattle.std.proofs.lemmas.Bool.{cases_lt, ltb-true, ltb-false, lt-ltb, le-ltb}
 use Rattle.std.proofs.lemmas.Int.{ints}
-use Rattle.std.proofs.lemmas.Nat.{pow_pos, xor_lt, or_lt, and_le_l, pow_below}
-use Rattle.std.proofs.lemmas.Nat.Bits.{bit_at_above, bit_at_and, bit_at_or, bit_at_xor, bit_at_cat_low, bit_at_cat_high, bit_at_lowest, bit_at-pow_same, bit_at-pow_other, bit_at-lt, bit_at-zero, same_from_bits}
+use Rattle.std.proofs.lemmas.Nat.{pow_pos, xor_lt, pow_below}
+use Rattle.std.proofs.lemmas.Nat.Bits.{bit_at_above, bit_at_xor, bit_at_cat_low, bit_at_cat_high, bit_at-pow_other, bit_at-lt, same_from_bits}
 use Rattle.bits_core.specs.declared.operator.Op.{Op}
 use Rattle.bits_core.specs.declared.operator.Op.TheVariants.{Eq, LtU, LeU, LtS, LeS}
 use Rattle.bits_core.specs.declared.operator.OpShape.TheVariants.{Test}
@@ -15,8 +15,8 @@ use Rattle.bits_core.specs.Operator.{shape_of, test_value}
 use Rattle.bits_core.proofs.SignLaws.{half_twice, signed_value_low, signed_value_high, int_lt_biased, int_le_biased}
 use Rattle.taint_domain.specs.declared.tainted.Tainted.{Tainted}
 use Rattle.taint_domain.specs.Results.{TestOf}
-use Rattle.taint_domain.specs.Tainted.{IsSameOutside, MayBe, IsClear}
-use Rattle.taint_domain.proofs.MayBeLemmas.{mask_fits, may_own, clear_may, least_of, greatest_of, may_least, may_greatest, least_le, le_greatest}
+use Rattle.taint_domain.specs.Tainted.{MayBe}
+use Rattle.taint_domain.proofs.MayBeLemmas.{may_own, least_of, greatest_of, may_least, may_greatest, least_le, le_greatest}
 
 -- ---- less
 
@@ -26,11 +26,17 @@ less_differs a b may may_not = by (nat_lt a.number.value b.number.value)
   where
     by : (t : Bool) → TestOf LtU a b (not t)
     by true = record {
-      x = greatest_of a; y = least_of b; first = may_greatest a; second = may_least b;
+      x = greatest_of a;
+      y = least_of b;
+      first = may_greatest a;
+      second = may_least b;
       is = sym (le-ltb (greatest_of a) (least_of b) may_not);
     }
     by false = record {
-      x = least_of a; y = greatest_of b; first = may_least a; second = may_greatest b;
+      x = least_of a;
+      y = greatest_of b;
+      first = may_least a;
+      second = may_greatest b;
       is = sym (lt-ltb (least_of a) (greatest_of b) may);
     }
 
@@ -38,14 +44,16 @@ less_needs_by : (a b : Tainted) (t : Bool) → nat_lt a.number.value b.number.va
     (least_of a < greatest_of b) × (least_of b ≤ greatest_of a)
 less_needs_by a b true own other =
     let less = ltb-true a.number.value b.number.value own in
-    let no = ltb-false other.x other.y (sym other.is) in
-    (omega (arith, least_le a a.number.value (may_own a), le_greatest b b.number.value (may_own b)),
-    omega (arith, least_le b other.y other.second, le_greatest a other.x other.first))
+    let no = ltb-false other.x other.y (sym other.is) in (
+      omega (arith, least_le a a.number.value (may_own a), le_greatest b b.number.value (may_own b)),
+      omega (arith, least_le b other.y other.second, le_greatest a other.x other.first),
+    )
 less_needs_by a b false own other =
     let less = ltb-true other.x other.y (sym other.is) in
-    let no = ltb-false a.number.value b.number.value own in
-    (omega (arith, least_le a other.x other.first, le_greatest b other.y other.second),
-    omega (arith, least_le b b.number.value (may_own b), le_greatest a a.number.value (may_own a)))
+    let no = ltb-false a.number.value b.number.value own in (
+      omega (arith, least_le a other.x other.first, le_greatest b other.y other.second),
+      omega (arith, least_le b b.number.value (may_own b), le_greatest a a.number.value (may_own a)),
+    )
 
 pub less_needs : (a b : Tainted) → TestOf LtU a b (not (nat_lt a.number.value b.number.value)) →
     (least_of a < greatest_of b) × (least_of b ≤ greatest_of a)
@@ -178,8 +186,10 @@ module _ (a b c d : Tainted) (width : a.number.width ≡ b.number.width) (first 
 
   less_to : (u : Bool) → TestOf LtS a b u → TestOf LtU c d u
   less_to u of = record {
-    x = bit_xor of.x half_of; y = bit_xor of.y half_of;
-    first = may_sign_turned a c of.x first of.first; second = second_turned of.y of.second;
+    x = bit_xor of.x half_of;
+    y = bit_xor of.y half_of;
+    first = may_sign_turned a c of.x first of.first;
+    second = second_turned of.y of.second;
     is = of.is ∙ signed_less of.x of.y of.first of.second;
   }
 
@@ -188,7 +198,10 @@ module _ (a b c d : Tainted) (width : a.number.width ≡ b.number.width) (first 
       let p = from_turned_first of.x of.first in
       let q = from_turned_second of.y of.second in
       record {
-        x = bit_xor of.x half_of; y = bit_xor of.y half_of; first = p; second = q;
+        x = bit_xor of.x half_of;
+        y = bit_xor of.y half_of;
+        first = p;
+        second = q;
         is = of.is ∙ sym (signed_less (bit_xor of.x half_of) (bit_xor of.y half_of) p q
             ∙ ap (λ (n : ℕ). nat_lt n (bit_xor (bit_xor of.y half_of) half_of)) (xor_twice of.x half_of)
             ∙ ap (nat_lt of.x) (xor_twice of.y half_of));
@@ -196,8 +209,10 @@ module _ (a b c d : Tainted) (width : a.number.width ≡ b.number.width) (first 
 
   le_to : (u : Bool) → TestOf LeS a b u → TestOf LtU d c (not u)
   le_to u of = record {
-    x = bit_xor of.y half_of; y = bit_xor of.x half_of;
-    first = second_turned of.y of.second; second = may_sign_turned a c of.x first of.first;
+    x = bit_xor of.y half_of;
+    y = bit_xor of.x half_of;
+    first = second_turned of.y of.second;
+    second = may_sign_turned a c of.x first of.first;
     is = ap not (of.is ∙ signed_le of.x of.y of.first of.second) ∙ not_twice (nat_lt (bit_xor of.y half_of) (bit_xor of.x half_of));
   }
 
@@ -206,7 +221,10 @@ module _ (a b c d : Tainted) (width : a.number.width ≡ b.number.width) (first 
       let p = from_turned_first of.y of.second in
       let q = from_turned_second of.x of.first in
       record {
-        x = bit_xor of.y half_of; y = bit_xor of.x half_of; first = p; second = q;
+        x = bit_xor of.y half_of;
+        y = bit_xor of.x half_of;
+        first = p;
+        second = q;
         is = sym (not_twice u) ∙ ap not of.is ∙ sym (signed_le (bit_xor of.y half_of) (bit_xor of.x half_of) p q
             ∙ ap (λ (n : ℕ). not (nat_lt (bit_xor (bit_xor of.x half_of) half_of) n)) (xor_twice of.y half_of)
             ∙ ap (λ (n : ℕ). not (nat_lt n of.y)) (xor_twice of.x half_of));
@@ -214,17 +232,19 @@ module _ (a b c d : Tainted) (width : a.number.width ≡ b.number.width) (first 
 
   pub signed_less_iff : (r : Bool) → (IsTrue r ↔ TestOf LtU c d (not (nat_lt c.number.value d.number.value))) →
       IsTrue r ↔ TestOf LtS a b (not (test_value LtS a.number.width a.number.value b.number.value))
-  signed_less_iff r told =
-      ((λ h. subst (λ t. TestOf LtS a b (not t)) (sym own_less) (less_from _ (told.0 h))),
-      (λ of. told.1 (less_to _ (subst (λ t. TestOf LtS a b (not t)) own_less of))))
+  signed_less_iff r told = (
+    (λ h. subst (λ t. TestOf LtS a b (not t)) (sym own_less) (less_from _ (told.0 h))),
+    (λ of. told.1 (less_to _ (subst (λ t. TestOf LtS a b (not t)) own_less of))),
+  )
 
   pub signed_le_iff : (r : Bool) → (IsTrue r ↔ TestOf LtU d c (not (nat_lt d.number.value c.number.value))) →
       IsTrue r ↔ TestOf LeS a b (not (test_value LeS a.number.width a.number.value b.number.value))
   signed_le_iff r told =
-      let own = nat_lt d.number.value c.number.value in
-      ((λ h. subst (λ t. TestOf LeS a b (not t)) (sym own_le)
-      (le_from (not (not own)) (subst (TestOf LtU d c) (ap not (sym (not_twice own))) (told.0 h)))),
-      (λ of. told.1 (subst (TestOf LtU d c) (ap not (not_twice own)) (le_to (not (not own)) (subst (λ t. TestOf LeS a b (not t)) own_le of)))))
+      let own = nat_lt d.number.value c.number.value in (
+        (λ h. subst (λ t. TestOf LeS a b (not t)) (sym own_le)
+            (le_from (not (not own)) (subst (TestOf LtU d c) (ap not (sym (not_twice own))) (told.0 h)))),
+        (λ of. told.1 (subst (TestOf LtU d c) (ap not (not_twice own)) (le_to (not (not own)) (subst (λ t. TestOf LeS a b (not t)) own_le of)))),
+      )
 
 -- the last of the five tests
 pub last_test : (op : Op) → shape_of op ≡ Test → op ≢ Eq → op ≢ LtU → op ≢ LeU → op ≢ LtS → op ≡ LeS

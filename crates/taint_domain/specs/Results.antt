@@ -1,5 +1,5 @@
 -- What the results of operations may be, as sets, and the bits in which the members of a set can differ from a number.
-use Rattle.std.specs.Prelude.{◌≡◌, ◌≢◌, ℕ, ◌<◌, Bool, if◌then◌else◌}
+use Rattle.std.specs.Prelude.{◌≡◌, ◌≢◌, ℕ, Bool, if◌then◌else◌}
 use Rattle.std.specs.Int.{bit_at}
 use Rattle.bits_core.specs.declared.operator.Op.{Op}
 use Rattle.bits_core.specs.Operator.{operator_value, test_value}

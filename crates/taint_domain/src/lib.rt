@@ -9,6 +9,7 @@
 
 mod comparisons;
 mod flag;
+pub mod laws;
 mod masks;
 mod places;
 mod products;

@@ -1,5 +1,4 @@
-use Rattle.std.proofs.Common.{◌≡◌, ◌<◌, ◌≤◌, ℕ, sym, ap, ◌∙◌, subst, arith}
-use Rattle.std.specs.Prelude.{IsTrue, nat_lt, nat_le}
+use Rattle.std.proofs.Common.{◌≡◌, sym, ◌∙◌, arith}
 use Rattle.taint_domain.proofs.MayBeLemmas.{least_of, greatest_of, least_is, greatest_is}
 use Rattle.taint_domain.proofs.TestLemmas.{less_differs, less_needs}
 use Rattle.taint_domain.proofs.comparisons.less_may_differ.Goals as goal

@@ -1,4 +1,4 @@
-use Rattle.std.proofs.Common.{◌≡◌, sym, subst}
+use Rattle.std.proofs.Common.{sym, subst}
 use Rattle.std.specs.Prelude.{◌↔◌, IsTrue, not}
 use Rattle.bits_core.specs.Operator.{test_value}
 use Rattle.taint_domain.specs.Results.{TestOf}

@@ -1,10 +1,9 @@
-use Rattle.std.proofs.Common.{◌≡◌, sym, ap, subst, ◌∙◌}
-use Rattle.bits_core.specs.declared.operator.Op.TheVariants.{Add, Sub, Mul, And, Or, Xor, Not, Neg, Cat}
+use Rattle.std.proofs.Common.{sym, subst}
+use Rattle.bits_core.specs.declared.operator.Op.TheVariants.{Add, Sub, And, Or, Xor, Cat}
 use Rattle.taint_domain.specs.Masks.{IsMaskOf}
-use Rattle.taint_domain.specs.Results.{ResultOf, MasksAll, MasksOnly}
 use Rattle.taint_domain.proofs.BitwiseLemmas.{xor_masks_all, xor_masks_only}
 use Rattle.taint_domain.proofs.MovedLemmas.{cat_masks_all, cat_masks_only}
-use Rattle.taint_domain.proofs.MaskLemmas.{valued, IsAllOrNone, saturating_row, least_mask, product_mask, not_mask, neg_mask}
+use Rattle.taint_domain.proofs.MaskLemmas.{saturating_row, least_mask, product_mask, not_mask, neg_mask}
 use Rattle.taint_domain.proofs.masks.of_operator.Goals as goal
 
 pub returns-in-Add-clause-mask : goal.returns-in-Add-clause-mask

@@ -1,4 +1,4 @@
-use Rattle.std.proofs.Common.{◌≡◌, arith}
+use Rattle.std.proofs.Common.{arith}
 use Rattle.taint_domain.specs.Tainted.{IsClear}
 use Rattle.taint_domain.proofs.MaskLemmas.{known_shift_mask, open_shift_mask}
 use Rattle.taint_domain.proofs.masks.of_shift.Goals as goal

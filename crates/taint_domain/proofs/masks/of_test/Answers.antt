@@ -1,8 +1,4 @@
-use Rattle.std.proofs.Common.{◌≡◌, ◌≢◌, arith}
-use Rattle.bits_core.specs.Operator.{shape_of}
-use Rattle.bits_core.specs.declared.operator.Op.{Op}
-use Rattle.bits_core.specs.declared.operator.Op.TheVariants.{Mul}
-use Rattle.bits_core.specs.declared.operator.OpShape.TheVariants.{Test}
+use Rattle.std.proofs.Common.{arith}
 use Rattle.taint_domain.proofs.MaskLemmas.{test_mask, no_product}
 use Rattle.taint_domain.proofs.masks.of_test.Goals as goal
 

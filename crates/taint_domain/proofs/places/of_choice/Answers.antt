@@ -1,5 +1,3 @@
-use Rattle.std.proofs.Common.{◌≡◌}
-use Rattle.std.specs.Prelude.{bit_or, bit_xor}
 use Rattle.taint_domain.proofs.ChoiceLemmas.{first_masks_all, first_masks_only, second_masks_all, second_masks_only, either_masks_all, either_masks_only}
 use Rattle.taint_domain.proofs.places.of_choice.Goals as goal
 

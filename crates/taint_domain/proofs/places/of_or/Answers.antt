@@ -1,4 +1,4 @@
-use Rattle.taint_domain.proofs.BitwiseLemmas.{IsComplement, or_masks_all, or_masks_only}
+use Rattle.taint_domain.proofs.BitwiseLemmas.{or_masks_all, or_masks_only}
 use Rattle.taint_domain.proofs.places.of_or.Goals as goal
 
 pub returns-clause-all : goal.returns-clause-all

@@ -1,5 +1,5 @@
-use Rattle.std.proofs.Common.{◌≡◌, ◌<◌, ◌^◌, ℕ, arith}
-use Rattle.std.specs.Int.{bit_at, w128}
+use Rattle.std.proofs.Common.{arith}
+use Rattle.std.specs.Int.{w128}
 use Rattle.std.proofs.lemmas.Nat.Bits.{bit_at-trailing_zeros}
 use Rattle.bits_core.proofs.WidthLaws.{pow_le}
 use Rattle.taint_domain.proofs.products.lowest_place.Goals as goal

@@ -1,7 +1,7 @@
 use Rattle.std.proofs.Common.{◌≡◌, ◌⊎◌, inl, inr, ℕ, ◌+◌, ◌<◌, ◌≤◌, ◌^◌, ◌∙◌, min, sym, subst, arith, ⊎_elim}
 use Rattle.std.proofs.lemmas.Bool.{cases_lt}
 use Rattle.taint_domain.proofs.MayBeLemmas.{greatest_of, greatest_is}
-use Rattle.taint_domain.proofs.ProductLemmas.{IsLowest, IsFrom, product_masks_all, product_settled}
+use Rattle.taint_domain.proofs.ProductLemmas.{IsLowest, product_masks_all, product_settled}
 use Rattle.taint_domain.proofs.products.of_multiply.Goals as goal
 
 least_of_two : (m n : ℕ) → (min m n ≡ m) ⊎ (min m n ≡ n)
@@ -11,24 +11,32 @@ least_of_two m n =
 -- of the ends, as of the values that the code has of them
 first_lowest : (c : goal.After-from_place) → IsLowest c.args.a.now.mask.value c.lowest_place.result
 first_lowest c = record {
-  below = c.lowest_place.ensures.below; lowest = c.lowest_place.ensures.lowest; none = c.lowest_place.ensures.none;
+  below = c.lowest_place.ensures.below;
+  lowest = c.lowest_place.ensures.lowest;
+  none = c.lowest_place.ensures.none;
 }
 
 first_zeros : (c : goal.After-from_place) → IsLowest (greatest_of c.args.b.now) c.lowest_place-2.result
 first_zeros c =
     subst (λ (n : ℕ). IsLowest n c.lowest_place-2.result) (c.greatest.ensures.value ∙ sym (greatest_is c.args.b.now)) (record {
-      below = c.lowest_place-2.ensures.below; lowest = c.lowest_place-2.ensures.lowest; none = c.lowest_place-2.ensures.none;
+      below = c.lowest_place-2.ensures.below;
+      lowest = c.lowest_place-2.ensures.lowest;
+      none = c.lowest_place-2.ensures.none;
     })
 
 second_lowest : (c : goal.After-from_place) → IsLowest c.args.b.now.mask.value c.lowest_place-3.result
 second_lowest c = record {
-  below = c.lowest_place-3.ensures.below; lowest = c.lowest_place-3.ensures.lowest; none = c.lowest_place-3.ensures.none;
+  below = c.lowest_place-3.ensures.below;
+  lowest = c.lowest_place-3.ensures.lowest;
+  none = c.lowest_place-3.ensures.none;
 }
 
 second_zeros : (c : goal.After-from_place) → IsLowest (greatest_of c.args.a.now) c.lowest_place-4.result
 second_zeros c =
     subst (λ (n : ℕ). IsLowest n c.lowest_place-4.result) (c.greatest-2.ensures.value ∙ sym (greatest_is c.args.a.now)) (record {
-      below = c.lowest_place-4.ensures.below; lowest = c.lowest_place-4.ensures.lowest; none = c.lowest_place-4.ensures.none;
+      below = c.lowest_place-4.ensures.below;
+      lowest = c.lowest_place-4.ensures.lowest;
+      none = c.lowest_place-4.ensures.none;
     })
 
 pub returns-clause-all : goal.returns-clause-all

@@ -1,6 +1,6 @@
 -- Each operation gives what the trait says of it.
-use Rattle.std.proofs.Common.{◌≡◌, ◌∙◌, ap, refl}
-use Rattle.std.specs.Prelude.{◌&&◌, ◌||◌, ◌+◌, ◌-◌, ◌^◌}
+use Rattle.std.proofs.Common.{ap}
+use Rattle.std.specs.Prelude.{◌&&◌, ◌||◌, ◌+◌, ◌-◌}
 use Rattle.std.proofs.lemmas.Nat.{pow_pos, mod_below}
 use Rattle.bits_core.specs.declared.number.Bits.{Bits}
 use Rattle.bits_core.specs.Number.{slice_value, extend_value}
