@@ -107,7 +107,10 @@ fn compare(rt: &impl Abort, cases: &[OperatorCase]) {
 fn compare_slices(rt: &impl Abort, cases: &[SliceCase]) {
     for (a, high, low, expected) in cases {
         let whole = number(rt, *a);
-        assert!(rt; low <= high && *high < whole.width, "{whole:?}[{high}:{low}]");
+        assert!(rt;
+            low <= high && *high < whole.width,
+            "{whole:?}[{high}:{low}]"
+        );
         let part = slice(whole, *high, *low);
         assert_eq!(rt; part, number(rt, *expected), "{whole:?}[{high}:{low}]");
     }
@@ -116,9 +119,16 @@ fn compare_slices(rt: &impl Abort, cases: &[SliceCase]) {
 fn compare_extensions(rt: &impl Abort, cases: &[ExtensionCase]) {
     for (a, width, signed, expected) in cases {
         let narrow = number(rt, *a);
-        assert!(rt; 1 <= *width && *width <= 128, "{narrow:?} at {width}, {signed}");
+        assert!(rt;
+            1 <= *width && *width <= 128,
+            "{narrow:?} at {width}, {signed}"
+        );
         let wide = extend(narrow, *width, *signed);
-        assert_eq!(rt; wide, number(rt, *expected), "{narrow:?} at {width}, {signed}");
+        assert_eq!(rt;
+            wide,
+            number(rt, *expected),
+            "{narrow:?} at {width}, {signed}"
+        );
     }
 }
 

@@ -37,11 +37,11 @@ length_ripple_sum [] ys c e = refl
 length_ripple_sum (x ∷ xs) [] c e = absurd (omega arith)
 length_ripple_sum (x ∷ xs) (y ∷ ys) c e = ap suc (length_ripple_sum xs ys (carry_bit x y c) (omega arith))
 
-sum_below : (xs ys : List Bool) (c : Bool) → length xs ≡ length ys → number_of (ripple_sum xs ys c) < 2 ^ length xs
+pub sum_below : (xs ys : List Bool) (c : Bool) → length xs ≡ length ys → number_of (ripple_sum xs ys c) < 2 ^ length xs
 sum_below xs ys c e =
     subst (λ (w : ℕ). number_of (ripple_sum xs ys c) < 2 ^ w) (length_ripple_sum xs ys c e) (number_of_below (ripple_sum xs ys c))
 
-carry_first : (s p k n : ℕ) → s + p * k ≡ n → n ≡ k * p + s
+pub carry_first : (s p k n : ℕ) → s + p * k ≡ n → n ≡ k * p + s
 carry_first s p k n e = omega arith
 
 pub number_of_ripple_sum : (xs ys : List Bool) (c : Bool) → length xs ≡ length ys →

@@ -1,17 +1,20 @@
 -- The bit at a place of sums and differences, from the carry into the place, of negations, and of products.
-use Rattle.std.proofs.Common.{◌≡◌, ◌≢◌, ℕ, zero, suc, ◌+◌, ◌-◌, ◌*◌, ◌/◌, ◌%◌, ◌^◌, ◌<◌, ◌≤◌, refl, sym, ap, ◌∙◌, arith, ⊎_elim, pos}
-use Rattle.std.specs.Prelude.{◌==◌, ◌-ℤ◌, if◌then◌else◌}
+use Rattle.std.proofs.Common.{◌≡◌, ◌≢◌, ℕ, zero, suc, ◌+◌, ◌-◌, ◌*◌, ◌/◌, ◌%◌, ◌^◌, ◌<◌, ◌≤◌, refl, sym, ap, ◌∙◌, arith, subst, Bool, List, length, take}
+use Rattle.std.specs.Prelude.{◌==◌, if◌then◌else◌}
 use Rattle.std.specs.Int.{bit_at}
 use Rattle.std.proofs.Common.{add-zero}
 use Rattle.std.proofs.Math.Nat.{add-mul-div_right, add-mul-mod_self_right, div-eq_of_lt}
 use Rattle.std.proofs.lemmas.Bool.{cond_both, eqb-true, eqb-false}
-use Rattle.std.proofs.lemmas.Nat.{pow_pos, shr-shr, div-add-mod', mod-pow-add, mod_below}
+use Rattle.std.proofs.lemmas.List.{length-take-le}
+use Rattle.std.proofs.lemmas.Nat.{shr_high, pow_pos, shr-shr, div-add-mod', mod-pow-add, mod_below}
 use Rattle.std.proofs.lemmas.Nat.Bits.{bit_at-lt, bit_at-zero, same_from_bits_below}
 use Rattle.bits_core.specs.declared.operator.Op.TheVariants.{Add, Sub, Mul, Neg}
-use Rattle.bits_core.specs.Number.{wrapped}
 use Rattle.bits_core.specs.Operator.{operator_value}
+use Rattle.bits_core.specs.BitList.{bit_value, number_of}
+use Rattle.bits_core.specs.Circuit.{ripple_sum, ripple_carry}
 use Rattle.bits_core.specs.Place.{carry_into, partial_product}
-use Rattle.bits_core.proofs.AdderLaws.{not_and_one}
+use Rattle.bits_core.proofs.AdderLaws.{not_and_one, number_of_ripple_sum_carry, sum_below, carry_first}
+use Rattle.bits_core.proofs.BitListLaws.{number_of_take}
 use Rattle.bits_core.proofs.PlaceLaws.{bit_at_mod, bit_at_turned}
 use Rattle.bits_core.proofs.WidthLaws.{mod_sub}
 
@@ -69,6 +72,28 @@ carry_into_is (suc i) x y c =
     ∙ ap (λ (n : ℕ). n / 2 ^ suc i) (sym (regroup a b p (x % p) (y % p) c))
     ∙ ap (λ (n : ℕ). (n + (b * p + y % p) + c) / 2 ^ suc i) (sym (mod_suc x i))
     ∙ ap (λ (n : ℕ). (x % 2 ^ suc i + n + c) / 2 ^ suc i) (sym (mod_suc y i))
+
+-- the carry of a row of full adders over lists of bits
+pub ripple_carry_take : (xs ys : List Bool) (c : Bool) (i : ℕ) → length xs ≡ length ys → i ≤ length xs →
+    bit_value (ripple_carry (take i xs) (take i ys) c) ≡ carry_into i (number_of xs) (number_of ys) (bit_value c)
+ripple_carry_take xs ys c i e within =
+    let us = take i xs in
+    let vs = take i ys in
+    let p = 2 ^ i in
+    let b = bit_value c in
+    let k = bit_value (ripple_carry us vs c) in
+    let s = number_of (ripple_sum us vs c) in
+    let long : length us ≡ i = length-take-le i xs within in
+    let same : length us ≡ length vs = long ∙ sym (length-take-le i ys (omega arith)) in
+    let below : s < p = subst (λ (n : ℕ). s < 2 ^ n) long (sum_below us vs c same) in
+    let whole : s + p * k ≡ number_of us + number_of vs + b =
+    subst (λ (n : ℕ). s + 2 ^ n * k ≡ number_of us + number_of vs + b) long (number_of_ripple_sum_carry us vs c same) in
+    sym
+    (carry_into_is i (number_of xs) (number_of ys) b
+    ∙ ap (λ (n : ℕ). (n + number_of ys % p + b) / p) (sym (number_of_take i xs))
+    ∙ ap (λ (n : ℕ). (number_of us + n + b) / p) (sym (number_of_take i ys))
+    ∙ ap (λ (n : ℕ). n / p) (carry_first s p k (number_of us + number_of vs + b) whole)
+    ∙ shr_high k i s below)
 
 low_sum : (a b c : ℕ) → (a + b + c) % 2 ≡ (a % 2 + b % 2 + c) % 2
 low_sum a b c = omega arith

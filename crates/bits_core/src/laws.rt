@@ -79,14 +79,14 @@ pub fn amounts_may_be_any()
 pub fn slices_join()
     ensures neighbours { (x high middle low : ℕ) → low ≤ middle → middle < high
         → operator_value Cat (high - middle) (slice_value x high (middle + 1))
-            (middle - low + 1) (slice_value x middle low)
+        (middle - low + 1) (slice_value x middle low)
         ≡ slice_value x high low }
     ensures within { (x high low top bottom : ℕ) → bottom ≤ top → top ≤ high - low
         → slice_value (slice_value x high low) top bottom
         ≡ slice_value x (low + top) (low + bottom) }
     ensures whole { (w x place : ℕ) → 1 ≤ place → place < w → x < 2 ^ w
         → operator_value Cat (w - place) (slice_value x (w - 1) place)
-            place (slice_value x (place - 1) 0)
+        place (slice_value x (place - 1) 0)
         ≡ x }
 {}
 
@@ -99,7 +99,7 @@ pub fn joins_are_sliced()
     ensures across { (w x v y high low : ℕ) → y < 2 ^ v → low < v → v ≤ high
         → slice_value (operator_value Cat w x v y) high low
         ≡ operator_value Cat (high + 1 - v) (slice_value x (high - v) 0)
-            (v - low) (slice_value y (v - 1) low) }
+        (v - low) (slice_value y (v - 1) low) }
 {}
 
 /// What is widened, with its sign or without, and then cut is what it was; and the number that it stands for stays.

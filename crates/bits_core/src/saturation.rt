@@ -1,5 +1,5 @@
 //! The rows that stop at the ends of the type.
-ghost use Rattle.std.specs.Prelude.{◌≡◌, ◌+◌, min};
+ghost use Rattle.std.specs.Prelude.{◌≡◌, ◌+◌, ◌≤◌, min};
 ghost use Rattle.bits_core.specs.declared.operator.Op.TheVariants.{AddSatU, SubSatU, AddSatS, SubSatS};
 ghost use Rattle.bits_core.specs.Operator.{operator_value};
 
@@ -60,9 +60,10 @@ pub(crate) fn subtract_saturating_signed(a: Bits, b: Bits) -> Bits
     from_biased(difference, a.width)
 }
 
-/// The sum, or `end` where it is greater. The sum itself may be past 2^128.
+/// The sum, or `end` where it is greater: of `y` is taken what there is room for, since the sum may be past 2^128.
 fn sum_up_to(end: u128, x: u128, y: u128) -> u128
+    requires { x ≤ end }
     ensures { result ≡ min (x + y) end }
 {
-    x.saturating_add(y).min(end)
+    x + y.min(end - x)
 }

@@ -68,7 +68,7 @@ pub fn adders_add()
         → place < length xs
         → slice_index_or (ripple_sum xs ys c) place false
         ≡ sum_bit (slice_index_or xs place false) (slice_index_or ys place false)
-            (ripple_carry (take place xs) (take place ys) c) }
+        (ripple_carry (take place xs) (take place ys) c) }
     ensures carry { (xs ys : List Bool) → length xs ≡ length ys → ripple_carry xs (map not ys) true
         ≡ nat_le (number_of ys) (number_of xs) }
 {}
@@ -107,11 +107,11 @@ pub fn comparators_compare()
     ensures less_signed { (xs ys : List Bool) → 1 ≤ length xs → length xs ≡ length ys
         → nat_lt (number_of (sign_turned xs)) (number_of (sign_turned ys))
         ≡ int_lt (signed_value (length xs) (number_of xs))
-            (signed_value (length ys) (number_of ys)) }
+        (signed_value (length ys) (number_of ys)) }
     ensures less_equal_signed { (xs ys : List Bool) → 1 ≤ length xs → length xs ≡ length ys
         → nat_le (number_of (sign_turned xs)) (number_of (sign_turned ys))
         ≡ int_le (signed_value (length xs) (number_of xs))
-            (signed_value (length ys) (number_of ys)) }
+        (signed_value (length ys) (number_of ys)) }
 {}
 
 /// For saturating adders: the sum or the difference, or the end of the type where the carry or the signs tell that it is past.
@@ -119,11 +119,11 @@ pub fn saturating_adders_stop()
     ensures sum { (xs ys : List Bool) → length xs ≡ length ys
         → operator_value AddSatU (length xs) (number_of xs) (length ys) (number_of ys)
         ≡ (if ripple_carry xs ys false then 2 ^ length xs - 1
-            else number_of (ripple_sum xs ys false)) }
+        else number_of (ripple_sum xs ys false)) }
     ensures difference { (xs ys : List Bool) → length xs ≡ length ys
         → operator_value SubSatU (length xs) (number_of xs) (length ys) (number_of ys)
         ≡ (if ripple_carry xs (map not ys) true
-            then number_of (ripple_sum xs (map not ys) true) else 0) }
+        then number_of (ripple_sum xs (map not ys) true) else 0) }
     ensures signed_sum { (xs ys : List Bool) → 1 ≤ length xs → length xs ≡ length ys
         → operator_value AddSatS (length xs) (number_of xs) (length xs) (number_of ys)
         ≡ signed_sum_or_end xs ys (ripple_sum xs ys false) }

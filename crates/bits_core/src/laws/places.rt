@@ -1,10 +1,12 @@
 //! The bit at a place of what each operator gives, from the bits of its operands, and what the lowest bits decide: for
 //! circuits and for masks of bits.
 ghost use Rattle.std.specs.Prelude.{◌≡◌, ℕ, suc, ◌+◌, ◌-◌, ◌*◌, ◌/◌, ◌%◌, ◌^◌, ◌<◌, ◌≤◌, min, max};
-ghost use Rattle.std.specs.Prelude.{nat_lt, ◌==◌, true, false, if◌then◌else◌};
+ghost use Rattle.std.specs.Prelude.{Bool, List, length, take, nat_lt, ◌==◌, true, false, if◌then◌else◌};
 ghost use Rattle.std.specs.Int.{bit_at};
 ghost use Rattle.bits_core.specs.declared.operator.Op.TheVariants.{Add, Sub, Mul, And, Or, Xor, Not};
 ghost use Rattle.bits_core.specs.declared.operator.Op.TheVariants.{Neg, Shl, ShrU, ShrS, Cat};
+ghost use Rattle.bits_core.specs.BitList.{bit_value, number_of};
+ghost use Rattle.bits_core.specs.Circuit.{ripple_carry};
 ghost use Rattle.bits_core.specs.Number.{slice_value, extend_value};
 ghost use Rattle.bits_core.specs.Operator.{operator_value};
 ghost use Rattle.bits_core.specs.Place.{carry_into, partial_product, SameBelow};
@@ -45,7 +47,7 @@ pub fn shifts_move_bits()
         → bit_at (operator_value ShrS w x v y) i ≡ bit_at x (min (y + i) (w - 1)) }
 {}
 
-/// The carry of a row of full adders, and what it is in whole numbers.
+/// The carry of a row of full adders, what it is in whole numbers, and that it is the one over lists of bits.
 pub fn carries_are_of_full_adders()
     ensures first { (x y c : ℕ) → carry_into 0 x y c ≡ c }
     ensures next { (i x y c : ℕ) → carry_into (suc i) x y c
@@ -53,6 +55,9 @@ pub fn carries_are_of_full_adders()
     ensures bit { (i x y c : ℕ) → c < 2 → carry_into i x y c < 2 }
     ensures whole { (i x y c : ℕ) → carry_into i x y c
         ≡ (x % 2 ^ i + y % 2 ^ i + c) / 2 ^ i }
+    ensures lists { (xs ys : List Bool) (c : Bool) (i : ℕ) → length xs ≡ length ys → i ≤ length xs
+        → bit_value (ripple_carry (take i xs) (take i ys) c)
+        ≡ carry_into i (number_of xs) (number_of ys) (bit_value c) }
 {}
 
 /// Sums and differences, by the carry; a negation, which keeps the bits up to the lowest 1 and turns those above; and a

@@ -1,4 +1,4 @@
-use Rattle.bits_core.proofs.CarryLaws.{carry_into_zero, carry_into_suc, carry_into_below, carry_into_is}
+use Rattle.bits_core.proofs.CarryLaws.{carry_into_zero, carry_into_suc, carry_into_below, carry_into_is, ripple_carry_take}
 use Rattle.bits_core.proofs.laws.places.carries_are_of_full_adders.Goals as goal
 
 pub returns-clause-first : goal.returns-clause-first
@@ -12,3 +12,6 @@ returns-clause-bit c = carry_into_below
 
 pub returns-clause-whole : goal.returns-clause-whole
 returns-clause-whole c = carry_into_is
+
+pub returns-clause-lists : goal.returns-clause-lists
+returns-clause-lists c = ripple_carry_take
