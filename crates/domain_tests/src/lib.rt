@@ -1,6 +1,9 @@
-//! Tests of the domains, and code that is generic over one. Nothing stands on this crate.
+//! Tests alone, of the domains: a module for each over its public calls, and code that is generic over a domain.
 #![tactic(auto)]
 
+#[cfg(test)]
+mod concrete;
+#[cfg(test)]
 mod generic;
-
-pub use generic::{byte, square_all, square_and_one};
+#[cfg(test)]
+mod taint;
