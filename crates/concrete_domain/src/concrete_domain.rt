@@ -64,8 +64,10 @@ impl<'a> Domain for ConcreteDomain<'a> {
 
     fn binary(&mut self, op: Op, a: &Bits, b: &Bits) -> Result<Bits, AllocError>
         requires { WidthsFit (shape_of op) a.now.width b.now.width }
-        ensures width { IsOkAnd result (λ v. v.width ≡ result_width (shape_of op) a.now.width b.now.width) }
-        ensures value { IsOkAnd result (λ v. v.value ≡ operator_value op a.now.width a.now.value b.now.width b.now.value) }
+        ensures width { IsOkAnd result (λ v. v.width
+            ≡ result_width (shape_of op) a.now.width b.now.width) }
+        ensures value { IsOkAnd result (λ v. v.value
+            ≡ operator_value op a.now.width a.now.value b.now.width b.now.value) }
         ensures stays { self.new ≡ self.old }
     {
         Ok(apply(op, *a, *b))
@@ -74,7 +76,8 @@ impl<'a> Domain for ConcreteDomain<'a> {
     fn unary(&mut self, op: Op, a: &Bits) -> Result<Bits, AllocError>
         requires { shape_of op ≡ One }
         ensures width { IsOkAnd result (λ v. v.width ≡ a.now.width) }
-        ensures value { IsOkAnd result (λ v. v.value ≡ operator_value op a.now.width a.now.value 0 0) }
+        ensures value { IsOkAnd result (λ v. v.value
+            ≡ operator_value op a.now.width a.now.value 0 0) }
         ensures stays { self.new ≡ self.old }
     {
         Ok(apply(op, *a, *a))
@@ -94,7 +97,8 @@ impl<'a> Domain for ConcreteDomain<'a> {
         requires some_bit { 1 ≤ width }
         requires at_most_128 { width ≤ 128 }
         ensures width { IsOkAnd result (λ v. v.width ≡ width) }
-        ensures value { IsOkAnd result (λ v. v.value ≡ extend_value signed a.now.width a.now.value width) }
+        ensures value { IsOkAnd result (λ v. v.value
+            ≡ extend_value signed a.now.width a.now.value width) }
         ensures stays { self.new ≡ self.old }
     {
         Ok(extend(*a, width, signed))
@@ -110,7 +114,8 @@ impl<'a> Domain for ConcreteDomain<'a> {
     fn compare(&mut self, op: Op, a: &Bits, b: &Bits) -> Result<bool, AllocError>
         requires shape { shape_of op ≡ Test }
         requires fits { a.now.width ≡ b.now.width }
-        ensures truth { IsOkAnd result (λ f. f ≡ test_value op a.now.width a.now.value b.now.value) }
+        ensures truth { IsOkAnd result (λ f. f
+            ≡ test_value op a.now.width a.now.value b.now.value) }
         ensures stays { self.new ≡ self.old }
     {
         Ok(apply(op, *a, *b).value == 1)
@@ -146,5 +151,6 @@ impl<'a> Domain for ConcreteDomain<'a> {
 
     ghost widths_are_those_of_bits = { λ d v known. (v.some_bit, v.at_most_128) };
 
-    ghost numbers_fit = { λ d v p x known spoken stands. subst (λ n. n < 2 ^ v.width) stands v.fits };
+    ghost numbers_fit = { λ d v p x known spoken stands.
+        subst (λ n. n < 2 ^ v.width) stands v.fits };
 }

@@ -37,9 +37,11 @@ pub fn square_and_one<D: Domain>(domain: &mut D, x: &D::Val) -> Result<D::Val, A
 pub fn square_all<D: Domain>(domain: &mut D, cells: &mut [D::Val]) -> Result<(), AllocError>
     requires cells { HaveWidth (D.meaning domain.old) cells.old 8 }
     ensures cells { IfOk result (λ _. HaveWidth (D.meaning domain.new) cells.new 8) }
-    ensures values { IfOk result (λ _. (p : Point) (numbers : List ℕ) → (D.meaning domain.old).speaks_of p
+    ensures values { IfOk result (λ _. (p : Point) (numbers : List ℕ)
+        → (D.meaning domain.old).speaks_of p
         → StandForAll (D.meaning domain.old) cells.old p numbers
-        → StandForAll (D.meaning domain.new) cells.new p (map (λ n. (n * n % 2 ^ 8 + 1) % 2 ^ 8) numbers)) }
+        → StandForAll (D.meaning domain.new) cells.new p
+        (map (λ n. (n * n % 2 ^ 8 + 1) % 2 ^ 8) numbers)) }
 {
     for i in 0..cells.len() {
         cells[i] = square_and_one(domain, &cells[i])?;

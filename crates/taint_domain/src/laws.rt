@@ -13,8 +13,10 @@ ghost use Rattle.taint_domain.specs.Tainted.{StandsFor, IsClear, ReadsAreZero, I
 /// anywhere.
 pub fn values_stand_for_their_numbers()
     ensures own { (v : Tainted) (p : Point) → StandsFor v p v.number.value }
-    ensures zeros { (v : Tainted) (p : Point) (x : ℕ) → ReadsAreZero p → StandsFor v p x → x ≡ v.number.value }
-    ensures clear { (v : Tainted) (p : Point) (x : ℕ) → IsClear v → StandsFor v p x → x ≡ v.number.value }
+    ensures zeros { (v : Tainted) (p : Point) (x : ℕ) → ReadsAreZero p → StandsFor v p x
+        → x ≡ v.number.value }
+    ensures clear { (v : Tainted) (p : Point) (x : ℕ) → IsClear v → StandsFor v p x
+        → x ≡ v.number.value }
 {}
 
 /// Two numbers that one value stands for, as it may in two runs, have the same bit wherever its mask has none.
@@ -33,6 +35,7 @@ pub fn sums_settle_from_below()
         → IsSettledBelow a n → IsSettledBelow b n → place < n → ResultOf Sub a b z
         → bit_at z place ≡ bit_at (operator_value Sub
         a.number.width a.number.value b.number.width b.number.value) place }
-    ensures negation { (a b : Tainted) (n place z : ℕ) → IsSettledBelow a n → place < n → ResultOf Neg a b z
+    ensures negation { (a b : Tainted) (n place z : ℕ) → IsSettledBelow a n → place < n
+        → ResultOf Neg a b z
         → bit_at z place ≡ bit_at (operator_value Neg a.number.width a.number.value 0 0) place }
 {}

@@ -53,7 +53,8 @@ impl Tainted {
     /// Each bit turned round.
     pub(crate) fn complement(&self) -> Tainted
         ensures width { result.number.width ≡ self.now.number.width }
-        ensures value { result.number.value ≡ 2 ^ self.now.number.width - 1 - self.now.number.value }
+        ensures value { result.number.value
+            ≡ 2 ^ self.now.number.width - 1 - self.now.number.value }
         ensures mask { result.mask ≡ self.now.mask }
     {
         Tainted {

@@ -18,13 +18,16 @@ pub fn steps_compose<D: Domain>()
 pub fn lists_are_kept<D: Domain>()
     ensures cells { (old new : D) (cells : List D.Val) → Extends (D.meaning old) (D.meaning new)
         → AreCells (D.meaning old) cells → AreCells (D.meaning new) cells }
-    ensures width { (old new : D) (cells : List D.Val) (w : ℕ) → Extends (D.meaning old) (D.meaning new)
+    ensures width { (old new : D) (cells : List D.Val) (w : ℕ)
+        → Extends (D.meaning old) (D.meaning new)
         → HaveWidth (D.meaning old) cells w → HaveWidth (D.meaning new) cells w }
-    ensures widths { (old new : D) (cells : List D.Val) (widths : List ℕ) → Extends (D.meaning old) (D.meaning new)
+    ensures widths { (old new : D) (cells : List D.Val) (widths : List ℕ)
+        → Extends (D.meaning old) (D.meaning new)
         → HaveWidths (D.meaning old) cells widths → HaveWidths (D.meaning new) cells widths }
     ensures numbers { (old new : D) (cells : List D.Val) (p : Point) (numbers : List ℕ)
         → Extends (D.meaning old) (D.meaning new) → AreCells (D.meaning old) cells
-        → StandForAll (D.meaning new) cells p numbers ↔ StandForAll (D.meaning old) cells p numbers }
+        → StandForAll (D.meaning new) cells p numbers
+        ↔ StandForAll (D.meaning old) cells p numbers }
     ensures flags { (old new : D) (flags : List D.Flag) → Extends (D.meaning old) (D.meaning new)
         → AreFlags (D.meaning old) flags → AreFlags (D.meaning new) flags }
     ensures truths { (old new : D) (flags : List D.Flag) (p : Point) (truths : List Bool)
@@ -39,12 +42,14 @@ pub fn lists_are_kept<D: Domain>()
 pub fn lists_are_read<D: Domain>()
     ensures cell { (d : D) (cells : List D.Val) (i : ℕ) (v : D.Val) → AreCells (D.meaning d) cells
         → i < length cells → (D.meaning d).has (slice_index_or cells i v) }
-    ensures width { (d : D) (cells : List D.Val) (w i : ℕ) (v : D.Val) → HaveWidth (D.meaning d) cells w
+    ensures width { (d : D) (cells : List D.Val) (w i : ℕ) (v : D.Val)
+        → HaveWidth (D.meaning d) cells w
         → i < length cells → HasWidth (D.meaning d) (slice_index_or cells i v) w }
     ensures widths { (d : D) (cells : List D.Val) (widths : List ℕ) (i : ℕ) (v : D.Val) (w : ℕ)
         → HaveWidths (D.meaning d) cells widths → i < length cells
         → HasWidth (D.meaning d) (slice_index_or cells i v) (slice_index_or widths i w) }
-    ensures number { (d : D) (cells : List D.Val) (p : Point) (numbers : List ℕ) (i : ℕ) (v : D.Val) (x : ℕ)
+    ensures number { (d : D) (cells : List D.Val) (p : Point) (numbers : List ℕ) (i : ℕ)
+        (v : D.Val) (x : ℕ)
         → StandForAll (D.meaning d) cells p numbers → i < length cells
         → (D.meaning d).stands (slice_index_or cells i v) p (slice_index_or numbers i x) }
     ensures flag { (d : D) (flags : List D.Flag) (i : ℕ) (f : D.Flag) → AreFlags (D.meaning d) flags
@@ -58,15 +63,19 @@ pub fn lists_are_read<D: Domain>()
 pub fn lists_are_written<D: Domain>()
     ensures cells { (d : D) (cells : List D.Val) (i : ℕ) (v : D.Val) → AreCells (D.meaning d) cells
         → (D.meaning d).has v → AreCells (D.meaning d) (slice_set cells i v) }
-    ensures width { (d : D) (cells : List D.Val) (w i : ℕ) (v : D.Val) → HaveWidth (D.meaning d) cells w
+    ensures width { (d : D) (cells : List D.Val) (w i : ℕ) (v : D.Val)
+        → HaveWidth (D.meaning d) cells w
         → HasWidth (D.meaning d) v w → HaveWidth (D.meaning d) (slice_set cells i v) w }
     ensures widths { (d : D) (cells : List D.Val) (widths : List ℕ) (i : ℕ) (v : D.Val) (w : ℕ)
-        → HaveWidths (D.meaning d) cells widths → HasWidth (D.meaning d) v (slice_index_or widths i w)
+        → HaveWidths (D.meaning d) cells widths
+        → HasWidth (D.meaning d) v (slice_index_or widths i w)
         → HaveWidths (D.meaning d) (slice_set cells i v) widths }
-    ensures numbers { (d : D) (cells : List D.Val) (p : Point) (numbers : List ℕ) (i : ℕ) (v : D.Val) (x : ℕ)
+    ensures numbers { (d : D) (cells : List D.Val) (p : Point) (numbers : List ℕ) (i : ℕ)
+        (v : D.Val) (x : ℕ)
         → StandForAll (D.meaning d) cells p numbers → (D.meaning d).stands v p x
         → StandForAll (D.meaning d) (slice_set cells i v) p (slice_set numbers i x) }
-    ensures flags { (d : D) (flags : List D.Flag) (i : ℕ) (f : D.Flag) → AreFlags (D.meaning d) flags
+    ensures flags { (d : D) (flags : List D.Flag) (i : ℕ) (f : D.Flag)
+        → AreFlags (D.meaning d) flags
         → (D.meaning d).has_flag f → AreFlags (D.meaning d) (slice_set flags i f) }
     ensures truths { (d : D) (flags : List D.Flag) (p : Point) (truths : List Bool) (i : ℕ)
         (f : D.Flag) (t : Bool) → FlagsStandForAll (D.meaning d) flags p truths
@@ -109,7 +118,8 @@ pub fn lists_are_parted<D: Domain>()
 
 /// Lists that go together are equally long, and cells that have widths are cells.
 pub fn lists_go_together<D: Domain>()
-    ensures widths { (d : D) (cells : List D.Val) (widths : List ℕ) → HaveWidths (D.meaning d) cells widths
+    ensures widths { (d : D) (cells : List D.Val) (widths : List ℕ)
+        → HaveWidths (D.meaning d) cells widths
         → length cells ≡ length widths }
     ensures numbers { (d : D) (cells : List D.Val) (p : Point) (numbers : List ℕ)
         → StandForAll (D.meaning d) cells p numbers → length cells ≡ length numbers }
