@@ -2,4 +2,8 @@
 #![tactic(auto)]
 
 #[cfg(test)]
+mod grammars;
+#[cfg(test)]
 mod operators;
+#[cfg(test)]
+mod sources;

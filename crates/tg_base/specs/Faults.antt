@@ -1,5 +1,5 @@
 -- Counts of faults, kept in 64 bits.
-use Rattle.std.specs.Prelude.{ℕ, ◌+◌, ◌-◌, ◌^◌, ◌≤◌, min, Result, IsErrOf}
+use Rattle.std.specs.Prelude.{◌≡◌, ◌≢◌, ℕ, ◌+◌, ◌-◌, ◌^◌, ◌≤◌, min, Result, Err, IsErrOf}
 use Rattle.tg_base.specs.declared.desk.DeskFault.{DeskFault}
 use Rattle.tg_base.specs.declared.desk.DeskFault.TheVariants.{Failed}
 
@@ -7,7 +7,9 @@ use Rattle.tg_base.specs.declared.desk.DeskFault.TheVariants.{Failed}
 abbrev pub Rose : ℕ → ℕ → Type 0
 Rose before now = min (before + 1) (2 ^ 64 - 1) ≤ now
 
--- The count of a kind of faults does not fall in a call, and it rose where the call answered that it failed.
+-- A count of faults over one call: it never falls, it rose where the call answered that it failed, and it stays
+-- where the call answered anything else.
 pub record HasCause {T : Type 0} (before now : ℕ) (result : Result T DeskFault) : Type 0 where
   pub later : before ≤ now
   pub failed : IsErrOf result Failed → Rose before now
+  pub else_stays : result ≢ Err Failed → now ≡ before

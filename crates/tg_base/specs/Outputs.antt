@@ -1,11 +1,12 @@
 -- The bytes written to each output of a desk in memory.
-use Rattle.std.specs.Prelude.{ℕ, List, [], Vec}
+use Rattle.std.specs.Prelude.{ℕ, List, [], Vec, Some}
 use Rattle.std.specs.declared.alloc.Global.{Global}
 use Rattle.std.specs.BTreeMap.{BTreeMap, get}
 use Rattle.std.specs.Option.{option_map_or}
 use Rattle.std.specs.Ordering.{nat_cmp}
 use Rattle.tg_base.specs.declared.desk.Out.{Out}
 use Rattle.tg_base.specs.declared.desk.Out.TheVariants.{Report, Proofs, Test, Notes}
+use Rattle.tg_base.specs.Moment.{Output}
 use Rattle.tg_base.specs.declared.outputs.Outputs.{Outputs}
 
 -- the bytes of the test of this number, none where nothing was written
@@ -17,3 +18,10 @@ bytes_at outputs Report = outputs.report.items
 bytes_at outputs Proofs = outputs.proofs.items
 bytes_at outputs Notes = outputs.notes.items
 bytes_at outputs (Test number) = test_bytes outputs.tests number
+
+-- an output that began empty and holds what it has taken
+abbrev pub filled : List ℕ → Output
+filled bytes = record { taken = bytes; holds = Some bytes }
+
+abbrev pub output_at : Outputs → Out → Output
+output_at outputs out = filled (bytes_at outputs out)

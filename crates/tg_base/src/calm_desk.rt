@@ -1,8 +1,11 @@
 //! A desk in memory at which no call fails.
-ghost use Rattle.std.specs.Prelude.{◌≡◌, ◌≢◌, [], ◌∷◌, ◌++◌, ◌||◌, ◌<◌, Some, length, min, is_ok, nat_lt, false, IsTrue, IsOk, OnOk, OnErr, IfOk, if◌then◌else◌};
+ghost use Rattle.std.specs.Prelude.{◌≡◌, ◌≢◌, [], ◌∷◌, ◌++◌, ◌||◌, ◌<◌, Some, length, min, take, drop, is_ok, nat_lt, false, IsTrue, IsOk, OnOk, OnErr, IfOk, if◌then◌else◌};
 ghost use Rattle.std.specs.String.{string_bytes};
-ghost use Rattle.tg_base.specs.CalmDesk.{source_or_test, files_of, rest_of, is_readable, asked_of, written_to};
-ghost use Rattle.tg_base.specs.Content.{Moves};
+ghost use Rattle.tg_base.specs.Telling.{tells_truly};
+ghost use Rattle.tg_base.specs.Files.{source_or_test, two_files};
+ghost use Rattle.tg_base.specs.Moment.{KeepsReading, KeepsWriting, just_opened, after_read, output_after};
+ghost use Rattle.tg_base.specs.Outputs.{filled};
+ghost use Rattle.tg_base.specs.Session.{readings_of, Tells};
 ghost use Rattle.tg_base.specs.declared.desk.Out.{Out};
 
 use crate::desk::{Desk, DeskFault, Out};
@@ -17,19 +20,21 @@ pub struct CalmDesk {
     source: Vec<u8>,
     test: Vec<u8>,
     session: Session,
+    ghost truly: { Tells (two_files (string_bytes name) source.items test.items) session },
 }
 
 impl CalmDesk {
     /// A desk on which the name leads to the source, and any other name to the test.
     pub fn new(alloc: Global, name: String, source: Vec<u8>, test: Vec<u8>) -> CalmDesk
-        ensures files { ⟦<CalmDesk as Desk>⟧.files result
-            ≡ Some (λ other. Some (source_or_test (string_bytes name) source.items test.items other)) }
-        ensures rest { ⟦<CalmDesk as Desk>⟧.rest result ≡ Some [] }
-        ensures asked { ⟦<CalmDesk as Desk>⟧.asked result ≡ Some [] }
-        ensures written { (out : Out) → ⟦<CalmDesk as Desk>⟧.written result out ≡ Some [] }
-        ensures readable { ⟦<CalmDesk as Desk>⟧.readable result ≡ false }
-        ensures read_faults { ⟦<CalmDesk as Desk>⟧.read_faults result ≡ 0 }
-        ensures write_faults { ⟦<CalmDesk as Desk>⟧.write_faults result ≡ 0 }
+        ensures files { (⟦<CalmDesk as Desk>⟧.moment result).files
+            ≡ Some (two_files (string_bytes name) source.items test.items) }
+        ensures asked { (⟦<CalmDesk as Desk>⟧.moment result).asked ≡ [] }
+        ensures opened { (⟦<CalmDesk as Desk>⟧.moment result).opened ≡ [] }
+        ensures readable { (⟦<CalmDesk as Desk>⟧.moment result).readable ≡ false }
+        ensures outputs { (out : Out) → (⟦<CalmDesk as Desk>⟧.moment result).outputs out
+            ≡ filled [] }
+        ensures read_faults { (⟦<CalmDesk as Desk>⟧.moment result).read_faults ≡ 0 }
+        ensures write_faults { (⟦<CalmDesk as Desk>⟧.moment result).write_faults ≡ 0 }
     {
         CalmDesk {
             name,
@@ -41,37 +46,32 @@ impl CalmDesk {
 
     /// The bytes written to an output.
     pub fn written(&self, out: Out) -> &[u8]
-        ensures { ⟦<CalmDesk as Desk>⟧.written self.now out ≡ Some result.now }
+        ensures { (⟦<CalmDesk as Desk>⟧.moment self.now).outputs out ≡ filled result.now }
     {
         self.session.written(out)
     }
 }
 
 impl Desk for CalmDesk {
-    ghost files = { λ desk. Some (files_of desk) };
+    ghost use Rattle.tg_base.specs.CalmDesk.{moment_of, files_of, left_in};
 
-    ghost rest = { λ desk. Some (rest_of desk) };
-
-    ghost asked = { λ desk. Some (asked_of desk) };
-
-    ghost written = { λ desk out. Some (written_to desk out) };
-
-    ghost readable = { is_readable };
-
-    ghost read_faults = { λ _. 0 };
-
-    ghost write_faults = { λ _. 0 };
+    ghost moment = { moment_of };
 
     fn open(&mut self, name: &str) -> Result<(), DeskFault>
-        ensures opened { OnOk result (files_of self.old name.now ≡ Some (rest_of self.new)) }
-        ensures readable { is_readable self.new ≡ (is_ok result || is_readable self.old) }
-        ensures asked { asked_of self.new ≡ (if is_ok result then asked_of self.old ++ name.now ∷ [] else asked_of self.old) }
+        ensures opened { OnOk result ((moment_of self.new).opened
+            ≡ (moment_of self.old).opened ++ just_opened name.now ∷ []) }
+        ensures left { OnOk result (files_of self.old name.now ≡ Some (left_in self.new)) }
+        ensures readable { (moment_of self.new).readable
+            ≡ (is_ok result || (moment_of self.old).readable) }
+        ensures asked { (moment_of self.new).asked ≡ (if is_ok result
+            then (moment_of self.old).asked ++ name.now ∷ [] else (moment_of self.old).asked) }
         ensures never_failed { result ≢ Err DeskFault.Failed }
 
         // What stays.
-        ensures rest_stays { OnErr result (rest_of self.new ≡ rest_of self.old) }
-        ensures files_stay { files_of self.new ≡ files_of self.old }
-        ensures written_stays { (out : Out) → written_to self.new out ≡ written_to self.old out }
+        ensures opened_stays { OnErr result
+            ((moment_of self.new).opened ≡ (moment_of self.old).opened) }
+        ensures left_stays { OnErr result (left_in self.new ≡ left_in self.old) }
+        ensures stays { KeepsWriting (moment_of self.old) (moment_of self.new) }
     {
         let bytes = source_or_test(self.name.as_str(), &self.source, &self.test, name);
         self.session.open(name, bytes)?;
@@ -79,17 +79,22 @@ impl Desk for CalmDesk {
     }
 
     fn read(&mut self, into: &mut [u8]) -> Result<usize, DeskFault>
-        requires readable { IsTrue (is_readable self.old) }
+        requires readable { IsTrue (moment_of self.old).readable }
         requires room { 0 < length into.old }
         ensures never_fails { IsOk result }
-        ensures count { IfOk result (λ count. count ≡ min (length into.old) (length (rest_of self.old))) }
-        ensures moved { IfOk result (λ count. Moves (rest_of self.old) count into.old into.new (Some (rest_of self.new))) }
-        ensures readable { IfOk result (λ count. is_readable self.new ≡ nat_lt 0 count) }
+        // It moves as much as there is and as fits.
+        ensures count { IfOk result (λ count. count
+            ≡ min (length into.old) (length (left_in self.old))) }
+        ensures bytes { IfOk result (λ count. take count into.new ≡ take count (left_in self.old)) }
+        ensures left { IfOk result (λ count. left_in self.new ≡ drop count (left_in self.old)) }
+        ensures moved { IfOk result (λ count. (moment_of self.new).opened
+            ≡ after_read (moment_of self.old).opened (take count into.new)) }
+        ensures behind { IfOk result (λ count. drop count into.new ≡ drop count into.old) }
+        ensures readable { IfOk result (λ count. (moment_of self.new).readable ≡ nat_lt 0 count) }
 
         // What stays.
-        ensures files_stay { files_of self.new ≡ files_of self.old }
-        ensures asked_stays { asked_of self.new ≡ asked_of self.old }
-        ensures written_stays { (out : Out) → written_to self.new out ≡ written_to self.old out }
+        ensures asked_stays { (moment_of self.new).asked ≡ (moment_of self.old).asked }
+        ensures stays { KeepsWriting (moment_of self.old) (moment_of self.new) }
     {
         Ok(self.session.read(into))
     }
@@ -97,20 +102,23 @@ impl Desk for CalmDesk {
     fn write(&mut self, out: Out, piece: &[u8]) -> Result<usize, DeskFault>
         requires { 0 < length piece.now }
         ensures whole { IfOk result (λ count. count ≡ length piece.now) }
-        ensures appended { OnOk result (written_to self.new out ≡ written_to self.old out ++ piece.now) }
+        ensures taken { OnOk result ((moment_of self.new).outputs out
+            ≡ output_after ((moment_of self.old).outputs out) piece.now) }
         ensures never_failed { result ≢ Err DeskFault.Failed }
 
         // What stays.
-        ensures out_stays { OnErr result (written_to self.new out ≡ written_to self.old out) }
-        ensures others_stay { (other : Out) → other ≢ out → written_to self.new other ≡ written_to self.old other }
-        ensures files_stay { files_of self.new ≡ files_of self.old }
-        ensures rest_stays { rest_of self.new ≡ rest_of self.old }
-        ensures asked_stays { asked_of self.new ≡ asked_of self.old }
-        ensures readable_stays { is_readable self.new ≡ is_readable self.old }
+        ensures out_stays { OnErr result
+            ((moment_of self.new).outputs out ≡ (moment_of self.old).outputs out) }
+        ensures others_stay { (other : Out) → other ≢ out
+            → (moment_of self.new).outputs other ≡ (moment_of self.old).outputs other }
+        ensures stays { KeepsReading (moment_of self.old) (moment_of self.new) }
+        ensures left_stays { left_in self.new ≡ left_in self.old }
     {
         self.session.append(out, piece)?;
         Ok(piece.len())
     }
+
+    ghost tells_truly = { λ desk. tells_truly (files_of desk) _ desk.truly };
 }
 
 fn source_or_test<'a>(own: &str, source: &'a [u8], test: &'a [u8], name: &str) -> &'a [u8]

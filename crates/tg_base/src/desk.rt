@@ -1,7 +1,8 @@
 //! The outside: the trait through which the generator reads sources and writes its outputs.
-ghost use Rattle.std.specs.Prelude.{◌≡◌, ◌≢◌, ℕ, Bool, List, [], ◌||◌, ◌<◌, ◌≤◌, Option, length, take, is_ok, nat_lt, false, IsTrue, OnOk, OnErr, IfOk, IfSome, IsErrOf, MatchResult, if◌then◌else◌};
-ghost use Rattle.tg_base.specs.Faults.{Rose};
-ghost use Rattle.tg_base.specs.Content.{OpensAtStart, Moves, with_name, with_piece, wants_memory};
+ghost use Rattle.std.specs.Prelude.{◌≡◌, ◌≢◌, Bool, ◌∷◌, ◌++◌, [], ◌||◌, ◌<◌, ◌≤◌, length, take, drop, is_ok, nat_lt, false, IsTrue, OnOk, OnErr, IfOk, MatchResult, if◌then◌else◌};
+ghost use Rattle.tg_base.specs.Answer.{wants_memory};
+ghost use Rattle.tg_base.specs.Faults.{HasCause};
+ghost use Rattle.tg_base.specs.Moment.{Moment, TellsTruly, KeepsReading, KeepsWriting, just_opened, after_read, output_after};
 ghost use Rattle.tg_base.specs.declared.desk.DeskFault.TheVariants.{Memory};
 ghost use Rattle.tg_base.specs.declared.desk.Out.{Out};
 
@@ -42,86 +43,61 @@ impl From<AllocError> for DeskFault {
 
 /// Named files to read and outputs to write.
 ///
-/// What a desk holds may stay untold, as a desk over real files does: `files`, `rest` and `asked`
-/// are then none, and `written` is none at each output. Whether it is readable and its two counts
-/// of faults are always told. The counts are those of a `u64`: one that stands at its end counts as
-/// one that rose.
+/// What a desk is at a moment is its `moment`. What passes through a desk is always told: the names asked for, the
+/// files that were opened with the bytes that were moved out of them, and the bytes that each output has taken. What
+/// its files and its outputs hold may stay untold, as a desk over real files does. Its two counts of faults are those
+/// of a `u64`: one that stands at its end counts as one that rose.
 pub trait Desk {
-    /// The bytes of the file of each name.
-    ghost files: { Self → Option (List ℕ → Option (List ℕ)) };
-
-    /// What the open file has left.
-    ghost rest: { Self → Option (List ℕ) };
-
-    /// The names that `open` was given, in order.
-    ghost asked: { Self → Option (List (List ℕ)) };
-
-    /// The bytes written to each output.
-    ghost written: { Self → Out → Option (List ℕ) };
-
-    /// A file is open, and neither its end nor a fault was met since.
-    ghost readable: { Self → Bool };
-
-    /// How many opens and reads met a fault.
-    ghost read_faults: { Self → ℕ };
-
-    /// How many writes met a fault.
-    ghost write_faults: { Self → ℕ };
+    ghost moment: { Self → Moment };
 
     /// Opens the file of a name at its start.
     fn open(&mut self, name: &str) -> Result<(), DeskFault>
-        ensures opened { OnOk result (OpensAtStart (files self.old) name.now (rest self.new)) }
-        ensures readable { readable self.new ≡ (is_ok result || readable self.old) }
-        ensures asked { asked self.new ≡ (if wants_memory result then asked self.old else with_name (asked self.old) name.now) }
-        ensures cause { IsErrOf result DeskFault.Failed → Rose (read_faults self.old) (read_faults self.new) }
-        ensures count { read_faults self.old ≤ read_faults self.new }
+        ensures opened { OnOk result
+            ((moment self.new).opened ≡ (moment self.old).opened ++ just_opened name.now ∷ []) }
+        ensures readable { (moment self.new).readable ≡ (is_ok result || (moment self.old).readable) }
+        ensures asked { (moment self.new).asked ≡ (if wants_memory result then (moment self.old).asked
+            else (moment self.old).asked ++ name.now ∷ []) }
+        ensures faults { HasCause (moment self.old).read_faults (moment self.new).read_faults result }
 
         // What stays.
-        ensures faults_stay { result ≢ Err DeskFault.Failed → read_faults self.new ≡ read_faults self.old }
-        ensures rest_stays { OnErr result (rest self.new ≡ rest self.old) }
-        ensures files_stay { files self.new ≡ files self.old }
-        ensures written_stays { (out : Out) → written self.new out ≡ written self.old out }
-        ensures write_faults_stay { write_faults self.new ≡ write_faults self.old };
+        ensures opened_stays { OnErr result ((moment self.new).opened ≡ (moment self.old).opened) }
+        ensures stays { KeepsWriting (moment self.old) (moment self.new) };
 
     /// Moves the next bytes of the open file to the front of the slice, and answers how many.
     fn read(&mut self, into: &mut [u8]) -> Result<usize, DeskFault>
-        requires readable { IsTrue (readable self.old) }
+        requires readable { IsTrue (moment self.old).readable }
         requires room { 0 < length into.old }
         ensures within { IfOk result (λ count. count ≤ length into.old) }
-        ensures moved { IfOk result (λ count. IfSome (rest self.old) (λ rest_old.
-            Moves rest_old count into.old into.new (rest self.new))) }
         // Nothing is moved only at the end.
-        ensures at_end { IfOk result (λ count. count ≡ 0 → IfSome (rest self.old) (λ rest_old. rest_old ≡ [])) }
+        ensures moved { IfOk result (λ count. (moment self.new).opened
+            ≡ after_read (moment self.old).opened (take count into.new)) }
+        ensures behind { IfOk result (λ count. drop count into.new ≡ drop count into.old) }
         // The end and any fault make the desk unreadable.
-        ensures readable { MatchResult result (λ count. readable self.new ≡ nat_lt 0 count) (λ _. readable self.new ≡ false) }
-        ensures cause { IsErrOf result DeskFault.Failed → Rose (read_faults self.old) (read_faults self.new) }
-        ensures count { read_faults self.old ≤ read_faults self.new }
+        ensures readable { MatchResult result (λ count. (moment self.new).readable ≡ nat_lt 0 count)
+            (λ _. (moment self.new).readable ≡ false) }
+        ensures faults { HasCause (moment self.old).read_faults (moment self.new).read_faults result }
 
         // What stays.
-        ensures faults_stay { result ≢ Err DeskFault.Failed → read_faults self.new ≡ read_faults self.old }
-        ensures rest_stays { OnErr result (rest self.new ≡ rest self.old) }
-        ensures into_stays { OnErr result (IfSome (rest self.old) (λ _. into.new ≡ into.old)) }
-        ensures files_stay { files self.new ≡ files self.old }
-        ensures asked_stays { asked self.new ≡ asked self.old }
-        ensures written_stays { (out : Out) → written self.new out ≡ written self.old out }
-        ensures write_faults_stay { write_faults self.new ≡ write_faults self.old };
+        ensures opened_stays { OnErr result ((moment self.new).opened ≡ (moment self.old).opened) }
+        ensures into_stays { OnErr result (into.new ≡ into.old) }
+        ensures asked_stays { (moment self.new).asked ≡ (moment self.old).asked }
+        ensures stays { KeepsWriting (moment self.old) (moment self.new) };
 
     /// Appends the first bytes of the piece to an output, and answers how many: at least one, or
     /// it fails.
     fn write(&mut self, out: Out, piece: &[u8]) -> Result<usize, DeskFault>
         requires { 0 < length piece.now }
         ensures some { IfOk result (λ count. (0 < count) × (count ≤ length piece.now)) }
-        ensures appended { IfOk result (λ count. written self.new out ≡ with_piece (written self.old out) (take count piece.now)) }
-        ensures cause { IsErrOf result DeskFault.Failed → Rose (write_faults self.old) (write_faults self.new) }
-        ensures count { write_faults self.old ≤ write_faults self.new }
+        ensures taken { IfOk result (λ count. (moment self.new).outputs out
+            ≡ output_after ((moment self.old).outputs out) (take count piece.now)) }
+        ensures faults { HasCause (moment self.old).write_faults (moment self.new).write_faults result }
 
         // What stays.
-        ensures faults_stay { result ≢ Err DeskFault.Failed → write_faults self.new ≡ write_faults self.old }
-        ensures out_stays { OnErr result (written self.new out ≡ written self.old out) }
-        ensures others_stay { (other : Out) → other ≢ out → written self.new other ≡ written self.old other }
-        ensures files_stay { files self.new ≡ files self.old }
-        ensures rest_stays { rest self.new ≡ rest self.old }
-        ensures asked_stays { asked self.new ≡ asked self.old }
-        ensures readable_stays { readable self.new ≡ readable self.old }
-        ensures read_faults_stay { read_faults self.new ≡ read_faults self.old };
+        ensures out_stays { OnErr result ((moment self.new).outputs out ≡ (moment self.old).outputs out) }
+        ensures others_stay { (other : Out) → other ≢ out
+            → (moment self.new).outputs other ≡ (moment self.old).outputs other }
+        ensures stays { KeepsReading (moment self.old) (moment self.new) };
+
+    /// Where the desk tells its files, what was moved out of one is what it begins with.
+    ghost tells_truly: { (desk : Self) → TellsTruly (moment desk) };
 }

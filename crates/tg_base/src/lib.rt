@@ -8,13 +8,12 @@
 mod calls;
 mod calm_desk;
 mod desk;
+pub mod laws;
 mod mem_desk;
 mod open_file;
 mod outputs;
 mod place;
 mod session;
-#[cfg(test)]
-mod tests;
 
 pub use calm_desk::CalmDesk;
 pub use desk::{Desk, DeskFault, Out};

@@ -1,9 +1,14 @@
 //! A desk in memory whose calls fail where its maker says.
-ghost use Rattle.std.specs.Prelude.{◌≡◌, ◌≢◌, ◌↔◌, [], ◌∷◌, ◌++◌, ◌||◌, ◌<◌, ◌≤◌, Some, length, min, is_ok, nat_lt, false, IsTrue, OnOk, OnErr, IfOk, IsErrOf, MatchResult, if◌then◌else◌};
+ghost use Rattle.std.specs.Prelude.{◌≡◌, ◌≢◌, ◌↔◌, [], ◌∷◌, ◌++◌, ◌||◌, ◌<◌, Some, length, min, take, drop, is_ok, nat_lt, false, IsTrue, OnOk, OnErr, IfOk, IsErrOf, MatchResult, if◌then◌else◌};
 ghost use Rattle.std.specs.Option.{option_copied};
+ghost use Rattle.tg_base.specs.Telling.{tells_truly};
+ghost use Rattle.tg_base.specs.Answer.{wants_memory};
 ghost use Rattle.tg_base.specs.Calls.{counted, faults_after};
-ghost use Rattle.tg_base.specs.Content.{Moves, wants_memory};
-ghost use Rattle.tg_base.specs.MemDesk.{file_named, files_of, rest_of, is_readable, asked_of, written_to, reads_so_far, writes_so_far, read_faults_of, write_faults_of, failing_reads_of, failing_writes_of, OpenFails, ReadFails, WriteFails};
+ghost use Rattle.tg_base.specs.Faults.{HasCause};
+ghost use Rattle.tg_base.specs.Files.{file_named};
+ghost use Rattle.tg_base.specs.Moment.{KeepsReading, KeepsWriting, just_opened, after_read, output_after};
+ghost use Rattle.tg_base.specs.Outputs.{filled};
+ghost use Rattle.tg_base.specs.Session.{readings_of, Tells};
 ghost use Rattle.tg_base.specs.declared.desk.Out.{Out};
 
 use crate::calls::Calls;
@@ -21,9 +26,12 @@ pub struct MemDesk {
     reads: Calls,
     writes: Calls,
     session: Session,
+    ghost truly: { Tells (file_named files.items) session },
 }
 
 impl MemDesk {
+    ghost use Rattle.tg_base.specs.MemDesk.{reads_so_far, writes_so_far, failing_reads_of, failing_writes_of};
+
     /// A desk with these files. Where two have the same name, the later one is never read.
     pub fn new(
         alloc: Global,
@@ -31,13 +39,14 @@ impl MemDesk {
         failing_reads: Vec<u64>,
         failing_writes: Vec<u64>,
     ) -> MemDesk
-        ensures files { ⟦<MemDesk as Desk>⟧.files result ≡ Some (file_named files.items) }
-        ensures rest { ⟦<MemDesk as Desk>⟧.rest result ≡ Some [] }
-        ensures asked { ⟦<MemDesk as Desk>⟧.asked result ≡ Some [] }
-        ensures written { (out : Out) → ⟦<MemDesk as Desk>⟧.written result out ≡ Some [] }
-        ensures readable { ⟦<MemDesk as Desk>⟧.readable result ≡ false }
-        ensures read_faults { ⟦<MemDesk as Desk>⟧.read_faults result ≡ 0 }
-        ensures write_faults { ⟦<MemDesk as Desk>⟧.write_faults result ≡ 0 }
+        ensures files { (⟦<MemDesk as Desk>⟧.moment result).files ≡ Some (file_named files.items) }
+        ensures asked { (⟦<MemDesk as Desk>⟧.moment result).asked ≡ [] }
+        ensures opened { (⟦<MemDesk as Desk>⟧.moment result).opened ≡ [] }
+        ensures readable { (⟦<MemDesk as Desk>⟧.moment result).readable ≡ false }
+        ensures outputs { (out : Out) → (⟦<MemDesk as Desk>⟧.moment result).outputs out
+            ≡ filled [] }
+        ensures read_faults { (⟦<MemDesk as Desk>⟧.moment result).read_faults ≡ 0 }
+        ensures write_faults { (⟦<MemDesk as Desk>⟧.moment result).write_faults ≡ 0 }
 
         // No call was made, and these are to fail.
         ensures reads { reads_so_far result ≡ 0 }
@@ -55,46 +64,40 @@ impl MemDesk {
 
     /// The bytes written to an output.
     pub fn written(&self, out: Out) -> &[u8]
-        ensures { ⟦<MemDesk as Desk>⟧.written self.now out ≡ Some result.now }
+        ensures { (⟦<MemDesk as Desk>⟧.moment self.now).outputs out ≡ filled result.now }
     {
         self.session.written(out)
     }
 }
 
 impl Desk for MemDesk {
-    ghost files = { λ desk. Some (files_of desk) };
+    ghost use Rattle.tg_base.specs.MemDesk.{moment_of, files_of, left_in, reads_so_far, writes_so_far, failing_reads_of, failing_writes_of, OpenFails, ReadFails, WriteFails};
 
-    ghost rest = { λ desk. Some (rest_of desk) };
-
-    ghost asked = { λ desk. Some (asked_of desk) };
-
-    ghost written = { λ desk out. Some (written_to desk out) };
-
-    ghost readable = { is_readable };
-
-    ghost read_faults = { read_faults_of };
-
-    ghost write_faults = { write_faults_of };
+    ghost moment = { moment_of };
 
     fn open(&mut self, name: &str) -> Result<(), DeskFault>
-        ensures opened { OnOk result (files_of self.old name.now ≡ Some (rest_of self.new)) }
-        ensures readable { is_readable self.new ≡ (is_ok result || is_readable self.old) }
-        ensures asked { asked_of self.new
-            ≡ (if wants_memory result then asked_of self.old else asked_of self.old ++ name.now ∷ []) }
+        ensures opened { OnOk result ((moment_of self.new).opened
+            ≡ (moment_of self.old).opened ++ just_opened name.now ∷ []) }
+        ensures left { OnOk result (files_of self.old name.now ≡ Some (left_in self.new)) }
+        ensures readable { (moment_of self.new).readable
+            ≡ (is_ok result || (moment_of self.old).readable) }
+        ensures asked { (moment_of self.new).asked
+            ≡ (if wants_memory result then (moment_of self.old).asked
+            else (moment_of self.old).asked ++ name.now ∷ []) }
 
         // It fails where it is to fail, unless memory runs out.
         ensures ok { IfOk result (λ _. OpenFails self.old name.now → ⊥) }
         ensures failed { IsErrOf result DeskFault.Failed → OpenFails self.old name.now }
+        ensures faults { HasCause (moment_of self.old).read_faults
+            (moment_of self.new).read_faults result }
         ensures reads { reads_so_far self.new ≡ counted (reads_so_far self.old) }
-        ensures read_faults { read_faults_of self.new ≡ faults_after result (read_faults_of self.old) }
-        ensures count { read_faults_of self.old ≤ read_faults_of self.new }
 
         // What stays.
-        ensures rest_stays { OnErr result (rest_of self.new ≡ rest_of self.old) }
-        ensures files_stay { files_of self.new ≡ files_of self.old }
-        ensures written_stays { (out : Out) → written_to self.new out ≡ written_to self.old out }
+        ensures opened_stays { OnErr result
+            ((moment_of self.new).opened ≡ (moment_of self.old).opened) }
+        ensures left_stays { OnErr result (left_in self.new ≡ left_in self.old) }
+        ensures stays { KeepsWriting (moment_of self.old) (moment_of self.new) }
         ensures writes_stay { writes_so_far self.new ≡ writes_so_far self.old }
-        ensures write_faults_stay { write_faults_of self.new ≡ write_faults_of self.old }
         ensures failing_reads_stay { failing_reads_of self.new ≡ failing_reads_of self.old }
         ensures failing_writes_stay { failing_writes_of self.new ≡ failing_writes_of self.old }
     {
@@ -113,27 +116,35 @@ impl Desk for MemDesk {
     }
 
     fn read(&mut self, into: &mut [u8]) -> Result<usize, DeskFault>
-        requires readable { IsTrue (is_readable self.old) }
+        requires readable { IsTrue (moment_of self.old).readable }
         requires room { 0 < length into.old }
-        ensures moved { IfOk result (λ count. Moves (rest_of self.old) count into.old into.new (Some (rest_of self.new))) }
-        ensures count_moved { IfOk result (λ count. count ≡ min (length into.old) (length (rest_of self.old))) }
-        ensures readable { MatchResult result (λ count. is_readable self.new ≡ nat_lt 0 count) (λ _. is_readable self.new ≡ false) }
+        // It moves as much as there is and as fits.
+        ensures count { IfOk result (λ count. count
+            ≡ min (length into.old) (length (left_in self.old))) }
+        ensures bytes { IfOk result (λ count. take count into.new ≡ take count (left_in self.old)) }
+        ensures left { IfOk result (λ count. left_in self.new ≡ drop count (left_in self.old)) }
+        ensures moved { IfOk result (λ count. (moment_of self.new).opened
+            ≡ after_read (moment_of self.old).opened (take count into.new)) }
+        ensures behind { IfOk result (λ count. drop count into.new ≡ drop count into.old) }
+        ensures readable { MatchResult result
+            (λ count. (moment_of self.new).readable ≡ nat_lt 0 count)
+            (λ _. (moment_of self.new).readable ≡ false) }
 
         // It fails exactly where it is to fail, and wants no memory.
         ensures failed { IsErrOf result DeskFault.Failed ↔ ReadFails self.old }
         ensures no_memory { result ≢ Err DeskFault.Memory }
+        ensures faults { HasCause (moment_of self.old).read_faults
+            (moment_of self.new).read_faults result }
         ensures reads { reads_so_far self.new ≡ counted (reads_so_far self.old) }
-        ensures read_faults { read_faults_of self.new ≡ faults_after result (read_faults_of self.old) }
-        ensures count { read_faults_of self.old ≤ read_faults_of self.new }
 
         // What stays.
-        ensures rest_stays { OnErr result (rest_of self.new ≡ rest_of self.old) }
+        ensures opened_stays { OnErr result
+            ((moment_of self.new).opened ≡ (moment_of self.old).opened) }
+        ensures left_stays { OnErr result (left_in self.new ≡ left_in self.old) }
         ensures into_stays { OnErr result (into.new ≡ into.old) }
-        ensures files_stay { files_of self.new ≡ files_of self.old }
-        ensures asked_stays { asked_of self.new ≡ asked_of self.old }
-        ensures written_stays { (out : Out) → written_to self.new out ≡ written_to self.old out }
+        ensures asked_stays { (moment_of self.new).asked ≡ (moment_of self.old).asked }
+        ensures stays { KeepsWriting (moment_of self.old) (moment_of self.new) }
         ensures writes_stay { writes_so_far self.new ≡ writes_so_far self.old }
-        ensures write_faults_stay { write_faults_of self.new ≡ write_faults_of self.old }
         ensures failing_reads_stay { failing_reads_of self.new ≡ failing_reads_of self.old }
         ensures failing_writes_stay { failing_writes_of self.new ≡ failing_writes_of self.old }
     {
@@ -148,23 +159,23 @@ impl Desk for MemDesk {
     fn write(&mut self, out: Out, piece: &[u8]) -> Result<usize, DeskFault>
         requires { 0 < length piece.now }
         ensures whole { IfOk result (λ count. count ≡ length piece.now) }
-        ensures appended { OnOk result (written_to self.new out ≡ written_to self.old out ++ piece.now) }
+        ensures taken { OnOk result ((moment_of self.new).outputs out
+            ≡ output_after ((moment_of self.old).outputs out) piece.now) }
 
-        // It fails exactly where it is to fail.
+        // It fails exactly where it is to fail, unless memory runs out.
         ensures failed { IsErrOf result DeskFault.Failed ↔ WriteFails self.old }
+        ensures faults { HasCause (moment_of self.old).write_faults
+            (moment_of self.new).write_faults result }
         ensures writes { writes_so_far self.new ≡ counted (writes_so_far self.old) }
-        ensures write_faults { write_faults_of self.new ≡ faults_after result (write_faults_of self.old) }
-        ensures count { write_faults_of self.old ≤ write_faults_of self.new }
 
         // What stays.
-        ensures out_stays { OnErr result (written_to self.new out ≡ written_to self.old out) }
-        ensures others_stay { (other : Out) → other ≢ out → written_to self.new other ≡ written_to self.old other }
-        ensures files_stay { files_of self.new ≡ files_of self.old }
-        ensures rest_stays { rest_of self.new ≡ rest_of self.old }
-        ensures asked_stays { asked_of self.new ≡ asked_of self.old }
-        ensures readable_stays { is_readable self.new ≡ is_readable self.old }
+        ensures out_stays { OnErr result
+            ((moment_of self.new).outputs out ≡ (moment_of self.old).outputs out) }
+        ensures others_stay { (other : Out) → other ≢ out
+            → (moment_of self.new).outputs other ≡ (moment_of self.old).outputs other }
+        ensures stays { KeepsReading (moment_of self.old) (moment_of self.new) }
+        ensures left_stays { left_in self.new ≡ left_in self.old }
         ensures reads_stay { reads_so_far self.new ≡ reads_so_far self.old }
-        ensures read_faults_stay { read_faults_of self.new ≡ read_faults_of self.old }
         ensures failing_reads_stay { failing_reads_of self.new ≡ failing_reads_of self.old }
         ensures failing_writes_stay { failing_writes_of self.new ≡ failing_writes_of self.old }
     {
@@ -175,6 +186,8 @@ impl Desk for MemDesk {
         self.session.append(out, piece)?;
         Ok(piece.len())
     }
+
+    ghost tells_truly = { λ desk. tells_truly (files_of desk) _ desk.truly };
 }
 
 fn file_named<'a>(files: &'a [(String, Vec<u8>)], name: &str) -> Option<&'a [u8]>

@@ -45,7 +45,8 @@ impl Outputs {
     }
 
     pub(crate) fn append(&mut self, out: Out, piece: &[u8]) -> Result<(), AllocError>
-        ensures appended { OnOk result (bytes_at self.new out ≡ bytes_at self.old out ++ piece.now) }
+        ensures appended { OnOk result
+            (bytes_at self.new out ≡ bytes_at self.old out ++ piece.now) }
         ensures out_stays { OnErr result (bytes_at self.new out ≡ bytes_at self.old out) }
         ensures others_stay { (other : Out) → other ≢ out
             → bytes_at self.new other ≡ bytes_at self.old other }
@@ -65,7 +66,8 @@ fn append_to_test(
     number: u32,
     piece: &[u8],
 ) -> Result<(), AllocError>
-    ensures appended { OnOk result (test_bytes tests.new number ≡ test_bytes tests.old number ++ piece.now) }
+    ensures appended { OnOk result
+        (test_bytes tests.new number ≡ test_bytes tests.old number ++ piece.now) }
     ensures stays { OnErr result (test_bytes tests.new number ≡ test_bytes tests.old number) }
     ensures others_stay { (other : ℕ) → other ≢ number
         → test_bytes tests.new other ≡ test_bytes tests.old other }
