@@ -16,7 +16,7 @@ use crate::print::print;
 use crate::skeleton::program_of;
 use crate::source::read_source;
 use crate::status::Status;
-use crate::words::{job_of, Job};
+use crate::words::{Job, job_of};
 use p4_program::{Bounds, Program};
 use std::alloc::{AllocError, Global};
 use tg_base::{Desk, DeskFault, Out, Refusal};

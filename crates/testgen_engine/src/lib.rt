@@ -34,11 +34,8 @@ ghost use Rattle.testgen_engine.specs.Endings.{Finishes, Misspells, Refuses, Fai
 ghost use Rattle.testgen_engine.specs.Source.{ReadsOnly};
 ghost use Rattle.testgen_engine.specs.Words.{AsksGen, AsksNothing};
 
-pub use status::{
-    DONE, OUT_OF_MEMORY, READ_FAULT, REFUSED, UNDECIDED, WRITE_FAULT, WRONG_WORDS,
-};
-
 use generate::run;
+pub use status::{DONE, OUT_OF_MEMORY, READ_FAULT, REFUSED, UNDECIDED, WRITE_FAULT, WRONG_WORDS};
 use std::alloc::Global;
 use tg_base::{Desk, DeskFault};
 
