@@ -24,7 +24,7 @@ use Rattle.p4_meaning.specs.Run.{Run}
 use Rattle.p4_meaning.specs.Statements.{Does, Exec, ExecAll}
 use Rattle.p4_meaning.specs.Store.{Environment, Store, starting_store, with_metadata}
 use Rattle.p4_meaning.specs.V1modelMetadata.{no_error}
-use Rattle.p4_meaning.specs.V1modelRun.{Onward, BlockThen, DropsOr, Sends, IsForDropPort, IsDroppedAfterIngress, AfterEgress, FromEgress, AfterParser}
+use Rattle.p4_meaning.specs.V1modelRun.{Onward, BlockThen, DropsOr, Leaves, IsForDropPort, IsDroppedAfterIngress, AfterEgress, FromEgress, AfterParser}
 
 -- the store becomes any
 becomes : (after : Store) → Becomes after after [] [] Next
@@ -116,12 +116,12 @@ dropped_after_ingress store =
       ]
     ]
 
--- the parts of a run, the last first
-sends : (env : Environment) (port : ℕ) (store : Store) → GoesOn (Sends env port) store
-sends env port store = ([], [], _, record { no_read = refl; no_mark = refl; sent = refl })
+-- the parts of a run, the last of them first
+leaves : (env : Environment) (port : ℕ) (store : Store) → GoesOn (Leaves env port) store
+leaves env port store = ([], [], _, record { no_read = refl; no_mark = refl; sent = refl })
 
 after_egress : (env : Environment) (port : ℕ) (store : Store) → GoesOn (AfterEgress env port) store
-after_egress env port = past_drop IsForDropPort _ for_drop_port (through env Compute _ (through env Deparser _ (sends env port)))
+after_egress env port = past_drop IsForDropPort _ for_drop_port (through env Compute _ (through env Deparser _ (leaves env port)))
 
 from_egress : (env : Environment) (store : Store) → GoesOn (FromEgress env) store
 from_egress env store = through env Egress _ (after_egress env store.metadata.egress_spec) _

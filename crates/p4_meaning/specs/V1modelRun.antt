@@ -18,7 +18,8 @@ abbrev pub Onward : Type 1
 Onward = Store → List Read → List ℕ → Outcome → Type 0
 
 -- a block runs, however it ends, and then the run goes on
-pub record BlockThen (env : Environment) (block : Block) (Rest : Onward) (old : Store) (reads : List Read) (marks : List ℕ) (outcome : Outcome) : Type 0 where
+pub record BlockThen (env : Environment) (block : Block) (Rest : Onward) (old : Store)
+    (reads : List Read) (marks : List ℕ) (outcome : Outcome) : Type 0 where
   pub after : Store
   pub end : End
   pub block_reads : List Read
@@ -42,7 +43,8 @@ DropsOr IsDropped Rest store reads marks outcome =
     (IsDropped store × Drops reads marks outcome) ⊎ ((IsDropped store → ⊥) × Rest store reads marks outcome)
 
 -- the packet leaves at the port: what was emitted, and then what the parser has not taken
-pub record Sends (env : Environment) (port : ℕ) (store : Store) (reads : List Read) (marks : List ℕ) (outcome : Outcome) : Type 0 where
+pub record Leaves (env : Environment) (port : ℕ) (store : Store)
+    (reads : List Read) (marks : List ℕ) (outcome : Outcome) : Type 0 where
   pub no_read : reads ≡ []
   pub no_mark : marks ≡ []
   pub sent : outcome ≡ Sent port (store.emitted ++ drop store.cursor env.input.packet)
@@ -62,15 +64,19 @@ entering_egress store =
 
 -- after egress: the drop port again, the checksum update and the deparser
 abbrev pub AfterEgress : Environment → ℕ → Onward
-AfterEgress env port = DropsOr IsForDropPort (BlockThen env Compute (BlockThen env Deparser (Sends env port)))
+AfterEgress env port = DropsOr IsForDropPort (BlockThen env Compute (BlockThen env Deparser (Leaves env port)))
 
 -- egress, for the port that ingress chose
 abbrev pub FromEgress : Environment → Onward
 FromEgress env store = BlockThen env Egress (AfterEgress env store.metadata.egress_spec) (entering_egress store)
 
+-- the drop decision
+abbrev pub DropDecision : Environment → Onward
+DropDecision env = DropsOr IsDroppedAfterIngress (FromEgress env)
+
 -- after the parser: the checksum check, ingress and the drop decision
 abbrev pub AfterParser : Environment → Onward
-AfterParser env = BlockThen env Verify (BlockThen env Ingress (DropsOr IsDroppedAfterIngress (FromEgress env)))
+AfterParser env = BlockThen env Verify (BlockThen env Ingress (DropDecision env))
 
 -- the parser ends, whatever its error was, and the packet goes on
 pub record Parsed (env : Environment) (reads : List Read) (marks : List ℕ) (outcome : Outcome) : Type 0 where

@@ -28,7 +28,7 @@ use Rattle.p4_meaning.specs.Run.{Run}
 use Rattle.p4_meaning.specs.Test.{Agrees, Holds, Tight, TightFor}
 use Rattle.p4_meaning.specs.Verdicts.{RightVerdict, RightVerdicts, credits_from}
 use Rattle.testgen_engine.specs.Decide.{expected_at, IsOpening}
-use Rattle.testgen_engine.specs.Findings.{Findings, CreditsAll, AreRight, IsUndecided}
+use Rattle.testgen_engine.specs.Findings.{Findings, CreditsAll, TakenInOrder, AreRight, IsUndecided}
 use Rattle.testgen_engine.specs.Log.{HasUndecided, LawfulSoFar, Lawful}
 use Rattle.testgen_engine.proofs.DigitLemmas.{AllowsAll-fixed, fixed_not_masked, fixed_not_undecided}
 use Rattle.testgen_engine.proofs.RunLemmas.{outcome_at, egress, run_is, good_for_all}
@@ -194,12 +194,18 @@ credits_all p b t number test least statement v e f low good g =
     let one = (numbered_one t test number e).0 in
     inr (1, named.2, omega arith)
 
+in_order : (p : Program) (b : Bounds) (t : Test) → TakenInOrder (found p b (t ∷ []))
+in_order p b t number least statement credit before e =
+    let same = (numbered-replicate (length p.statements) statement (verdict.Covered 1) verdict.Undecided e).2 in
+    cc
+
 -- what is found of a program with statements is right
 pub found_right : (p : Program) (b : Bounds) (t : Test) → IsOpening p b t → 1 ≤ length p.statements → AreRight (found p b (t ∷ []))
 found_right p b t o some = record {
   so_far = record {
     verdicts = right_verdicts p b t o;
     chosen = chosen p b t o some;
+    in_order = in_order p b t;
     credited = credits_all p b t;
     hold = λ number u e. subst (Holds p b) (numbered_one t u number e).1 (holds p b t o);
     tight = λ number u e. subst (Tight p b) (numbered_one t u number e).1 (tight p b t o);

@@ -71,6 +71,7 @@ nothing_taken p b = record {
   right = record {
     verdicts = undecided_right p b;
     chosen = nothing_chosen p b;
+    in_order = λ number least statement credit before e. absurd (no_least (length (places_of p)) number least credit);
     credited = λ number t least statement v e f low good g. absurd (no_test number t e);
     hold = λ number t e. absurd (no_test number t e);
     tight = λ number t e. absurd (no_test number t e);

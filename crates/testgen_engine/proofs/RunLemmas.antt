@@ -28,7 +28,7 @@ use Rattle.p4_meaning.specs.Run.{Run}
 use Rattle.p4_meaning.specs.Statements.{Does, Exec, ExecAll}
 use Rattle.p4_meaning.specs.Store.{Environment, Store, with_metadata}
 use Rattle.p4_meaning.specs.V1modelMetadata.{no_error}
-use Rattle.p4_meaning.specs.V1modelRun.{Onward, BlockThen, DropsOr, IsDroppedAfterIngress, FromEgress, AfterParser, entering_egress}
+use Rattle.p4_meaning.specs.V1modelRun.{Onward, BlockThen, DropDecision, FromEgress, AfterParser, entering_egress}
 use Rattle.testgen_engine.specs.Decide.{egress_of, egress_after}
 
 -- how a run ends where ingress leaves this egress_spec
@@ -100,7 +100,7 @@ from_egress env value reads marks outcome h =
 
 -- the drop decision
 decision : (env : Environment) (value : ℕ) (reads : List Read) (marks : List ℕ) (outcome : Outcome)
-    → DropsOr IsDroppedAfterIngress (FromEgress env) (store_at value) reads marks outcome → EndsWith (outcome_at value env.input.packet) [] outcome marks
+    → DropDecision env (store_at value) reads marks outcome → EndsWith (outcome_at value env.input.packet) [] outcome marks
 decision env value reads marks outcome (inl (inl group, drops)) = absurd (group refl)
 decision env value reads marks outcome (inl (inr drop, drops)) = record { leaves = drops.dropped ∙ sym (rw (eq-eqb value DROP_PORT drop) refl); marked = drops.no_mark }
 decision env value reads marks outcome (inr (other, on)) =
@@ -121,7 +121,7 @@ after_parser env reads marks outcome h =
     let ingress = verified.1 in
     let ran = exec_all env env.program.statements 0 ingress.after ingress.block_reads ingress.block_marks ingress.end ingress.runs in
     let decided = decision env (egress env.program) ingress.rest_reads ingress.rest_marks outcome
-    (subst (λ store. DropsOr IsDroppedAfterIngress (FromEgress env) store ingress.rest_reads ingress.rest_marks outcome) ran.store ingress.rest) in
+    (subst (λ store. DropDecision env store ingress.rest_reads ingress.rest_marks outcome) ran.store ingress.rest) in
     record { leaves = decided.leaves; marked = ingress.all_marks ∙ (λ i. ran.marked i ++ decided.marked i) ∙ append-nil (map number_of env.program.statements) }
 
 -- what the parser comes to

@@ -1,5 +1,5 @@
 -- What a job of `gen` found, and when it is right.
-use Rattle.std.specs.Prelude.{◌≡◌, ◌≤◌, ◌⊎◌, ℕ, List, [], ◌++◌, Some, Contains}
+use Rattle.std.specs.Prelude.{◌≡◌, ◌<◌, ◌≤◌, ◌⊎◌, ℕ, List, [], ◌++◌, Some, Contains}
 use Rattle.tg_base.specs.declared.desk.Out.{Out}
 use Rattle.tg_base.specs.declared.desk.Out.TheVariants as out
 use Rattle.p4_program.specs.declared.bounds.Bounds.{Bounds}
@@ -41,11 +41,18 @@ CreditsAll f =
     → Good f.program f.bounds t.input statement → numbered f.verdicts statement ≡ Some verdict
     → (statement_units f.log statement ≡ f.bounds.budget) ⊎ ((by : ℕ) × (verdict ≡ Covered by) × (by ≤ number))
 
--- Right as far as it goes: each verdict is right, the tests are chosen as they should be and credited with all that they
--- should be, each test holds in every run and is tight, and the log is lawful so far.
+-- Statements are taken in order: before a test's least credit, one is undecided only where its budget was spent.
+abbrev pub TakenInOrder : Findings → Type 0
+TakenInOrder f =
+    (number least statement : ℕ) → least_credit f.verdicts number ≡ Some least → statement < least
+    → numbered f.verdicts statement ≡ Some Undecided → statement_units f.log statement ≡ f.bounds.budget
+
+-- Right as far as it goes: each verdict is right, the tests are chosen as they should be, in the order of the statements and
+-- with all their credits, each test holds in every run and is tight, and the log is lawful so far.
 pub record RightSoFar (f : Findings) : Type 0 where
   pub verdicts : RightVerdicts f.program f.bounds f.verdicts f.tests
   pub chosen : Chosen f.program f.bounds f.verdicts f.tests
+  pub in_order : TakenInOrder f
   pub credited : CreditsAll f
   pub hold : (number : ℕ) (t : Test) → numbered f.tests number ≡ Some t → Holds f.program f.bounds t
   pub tight : (number : ℕ) (t : Test) → numbered f.tests number ≡ Some t → Tight f.program f.bounds t

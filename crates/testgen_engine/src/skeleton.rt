@@ -173,6 +173,13 @@ fn placed(alloc: Global, kinds: &[StatementKind]) -> Result<Items<Statement>, Al
     Ok(statements)
 }
 
+/// Whether there are more statements than a source that is built has.
+fn are_many(kinds: &[StatementKind]) -> bool
+    ensures { IsTrue result ↔ MOST_STATEMENTS < length kinds.now }
+{
+    kinds.len() > MOST_STATEMENTS
+}
+
 /// What the statements of a source do, where it is built.
 fn source_kinds(alloc: Global, source: &[u8]) -> Result<Option<Items<StatementKind>>, AllocError>
     ensures { IfOk result (λ found. MatchOption found (IsNotBuilt source.now)
@@ -184,7 +191,7 @@ fn source_kinds(alloc: Global, source: &[u8]) -> Result<Option<Items<StatementKi
     let Some(kinds) = kinds_of(alloc, body)? else {
         return Ok(None);
     };
-    if kinds.len() > MOST_STATEMENTS {
+    if are_many(kinds.as_slice()) {
         return Ok(None);
     }
     Ok(Some(kinds))
