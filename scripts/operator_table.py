@@ -1,13 +1,13 @@
 #!/usr/bin/env python3
-"""Writes the tables of outside values that the tests of bits_core compare with.
+"""Writes the tables of outside values that the tests of bits_core in base_tests compare with.
 
 The values are worked out with Python's integers by the sentences of the P4-16 specification, from nothing that the
-crate has. Run it from the top of the repository; it writes crates/bits_core/src/tests/table_*.rt.
+crate has. Run it from the top of the repository; it writes crates/base_tests/src/operators/table_*.rt.
 """
 import random
 
 WIDTHS = [1, 7, 8, 64, 127, 128]
-FOLDER = "crates/bits_core/src/tests"
+FOLDER = "crates/base_tests/src/operators"
 
 
 def signed(width, value):
@@ -136,7 +136,7 @@ def bits(pair):
 def write(name, head, kind, rule, lines):
     """A macro call keeps a row on a line, which the formatter would break."""
     with open("%s/%s.rt" % (FOLDER, name), "w") as out:
-        out.write("// %s Written by scripts/operator_table.py.\n" % head)
+        out.write("//! %s Written by scripts/operator_table.py.\n" % head)
         out.write("use super::*;\n\n")
         out.write("pub(super) const %s: [%s; %d] = %s! {\n" % (name.upper(), kind, len(lines), rule))
         out.writelines("    %s\n" % line for line in lines)

@@ -8,10 +8,10 @@ use Rattle.bits_core.specs.BitList.{bit_value, number_of, sign_bit}
 use Rattle.bits_core.specs.Circuit.{exclusive_or, bitwise}
 use Rattle.bits_core.specs.Number.{slice_value, extend_value, wrapped}
 use Rattle.bits_core.specs.Operator.{operator_value}
-use Rattle.bits_core.proofs.BitListLaws.{number_of-append, number_of-below, number_of-drop, number_of-not, number_of-take, number_of-zeros, sign_bit_high, sign_bit_low}
-use Rattle.bits_core.proofs.Signs.{signed_value-low, signed_value-negsuc}
-use Rattle.bits_core.proofs.PartLaws.{extend_value-cut}
-use Rattle.bits_core.proofs.Widths.{pow_le}
+use Rattle.bits_core.proofs.BitListLaws.{number_of_append, number_of_below, number_of_drop, number_of_not, number_of_take, number_of_zeros, sign_bit_high, sign_bit_low}
+use Rattle.bits_core.proofs.SignLaws.{signed_value_low, signed_value_negsuc}
+use Rattle.bits_core.proofs.PartLaws.{extend_value_cut}
+use Rattle.bits_core.proofs.WidthLaws.{pow_le}
 
 -- the order of the sum in a list's number
 low_first : (b n : ℕ) → n * 2 ^ 1 + b ≡ b + 2 * n
@@ -68,34 +68,34 @@ pub xor_by_bits : (xs ys : List Bool) → length xs ≡ length ys →
 xor_by_bits = place_by_place bit_xor exclusive_or refl xor_bits xor_block
 
 pub not_by_bits : (xs : List Bool) → number_of (map not xs) ≡ operator_value Not (length xs) (number_of xs) 0 0
-not_by_bits = number_of-not
+not_by_bits = number_of_not
 
 -- ---- bits that only move
 
 pub cat_by_append : (xs ys : List Bool) → number_of (ys ++ xs) ≡ operator_value Cat (length xs) (number_of xs) (length ys) (number_of ys)
-cat_by_append xs ys = number_of-append ys xs
+cat_by_append xs ys = number_of_append ys xs
 
 pub slice_by_take : (high low : ℕ) (xs : List Bool) → number_of (take (high - low + 1) (drop low xs)) ≡ slice_value (number_of xs) high low
 slice_by_take high low xs =
-    number_of-take (high - low + 1) (drop low xs) ∙ ap (λ (n : ℕ). n % 2 ^ (high - low + 1)) (number_of-drop low xs)
+    number_of_take (high - low + 1) (drop low xs) ∙ ap (λ (n : ℕ). n % 2 ^ (high - low + 1)) (number_of_drop low xs)
 
 pub cut_by_take : (signed : Bool) (n : ℕ) (xs : List Bool) → n ≤ length xs → number_of (take n xs) ≡ extend_value signed (length xs) (number_of xs) n
 cut_by_take signed n xs within =
-    number_of-take n xs ∙ sym (extend_value-cut signed (length xs) (number_of xs) n within (number_of-below xs))
+    number_of_take n xs ∙ sym (extend_value_cut signed (length xs) (number_of xs) n within (number_of_below xs))
 
 none_above : (p x : ℕ) → 0 * p + x ≡ x
 none_above p x = omega arith
 
 pub widen_by_zeros : (n : ℕ) (xs : List Bool) → number_of (xs ++ replicate n false) ≡ extend_value false (length xs) (number_of xs) (length xs + n)
 widen_by_zeros n xs =
-    number_of-append xs (replicate n false)
-    ∙ ap (λ (m : ℕ). m * 2 ^ length xs + number_of xs) (number_of-zeros n)
+    number_of_append xs (replicate n false)
+    ∙ ap (λ (m : ℕ). m * 2 ^ length xs + number_of xs) (number_of_zeros n)
     ∙ none_above (2 ^ length xs) (number_of xs)
-    ∙ sym (mod-eq_of_lt (omega (arith, number_of-below xs, pow_le (length xs) (length xs + n) (omega arith))))
+    ∙ sym (mod-eq_of_lt (omega (arith, number_of_below xs, pow_le (length xs) (length xs + n) (omega arith))))
 
-number_of-ones : (n : ℕ) → number_of (replicate n true) ≡ 2 ^ n - 1
-number_of-ones zero = refl
-number_of-ones (suc n) = omega (arith, number_of-ones n, pow-succ' 2 n, pow_pos n)
+number_of_ones : (n : ℕ) → number_of (replicate n true) ≡ 2 ^ n - 1
+number_of_ones zero = refl
+number_of_ones (suc n) = omega (arith, number_of_ones n, pow-succ' 2 n, pow_pos n)
 
 ones_over : (r q x : ℕ) → x < q → r * q + x ≡ (r + 1) * q - 1 - (q - 1 - x)
 ones_over r q x below = omega arith
@@ -109,19 +109,19 @@ ones_above p q x some below =
 widen_cases : (n : ℕ) (xs : List Bool) → 1 ≤ length xs → (sign : Bool) → sign_bit xs ≡ sign →
     number_of (xs ++ replicate n sign) ≡ extend_value true (length xs) (number_of xs) (length xs + n)
 widen_cases n xs some false e =
-    widen_by_zeros n xs ∙ ap (wrapped (length xs + n)) (sym (signed_value-low (length xs) (number_of xs) (sign_bit_low xs some e)))
+    widen_by_zeros n xs ∙ ap (wrapped (length xs + n)) (sym (signed_value_low (length xs) (number_of xs) (sign_bit_low xs some e)))
 widen_cases n xs some true e =
     let w = length xs in
     let x = number_of xs in
-    let fits : x < 2 ^ w = number_of-below xs in
+    let fits : x < 2 ^ w = number_of_below xs in
     let lacking : 2 ^ w - 1 - x < 2 ^ (w + n) = omega (arith, pow_le w (w + n) (omega arith)) in
     let powers : 2 ^ n * 2 ^ w ≡ 2 ^ (w + n) = mul_comm (2 ^ n) (2 ^ w) ∙ sym (pow-add 2 w n) in
-    number_of-append xs (replicate n true)
-    ∙ ap (λ (m : ℕ). m * 2 ^ w + x) (number_of-ones n)
+    number_of_append xs (replicate n true)
+    ∙ ap (λ (m : ℕ). m * 2 ^ w + x) (number_of_ones n)
     ∙ ones_above (2 ^ n) (2 ^ w) x (pow_pos n) fits
     ∙ ap (λ (m : ℕ). m - 1 - (2 ^ w - 1 - x)) powers
     ∙ ap (λ (m : ℕ). 2 ^ (w + n) - 1 - m) (sym (mod-eq_of_lt lacking))
-    ∙ ap (wrapped (w + n)) (sym (signed_value-negsuc w x (sign_bit_high xs some e) fits))
+    ∙ ap (wrapped (w + n)) (sym (signed_value_negsuc w x (sign_bit_high xs some e) fits))
 
 pub widen_by_sign : (n : ℕ) (xs : List Bool) → 1 ≤ length xs →
     number_of (xs ++ replicate n (sign_bit xs)) ≡ extend_value true (length xs) (number_of xs) (length xs + n)

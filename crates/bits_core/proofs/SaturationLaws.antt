@@ -12,11 +12,11 @@ use Rattle.bits_core.specs.BitList.{number_of, sign_bit}
 use Rattle.bits_core.specs.Circuit.{exclusive_or, signed_sum_or_end, signed_difference_or_end, ripple_sum, ripple_carry}
 use Rattle.bits_core.specs.Number.{signed_value, wrapped}
 use Rattle.bits_core.specs.Operator.{operator_value}
-use Rattle.bits_core.proofs.AdderLaws.{add_by_ripple, subtract_by_ripple, length-ripple_sum, less_equal_by_ripple, ripple_carry-is}
-use Rattle.bits_core.proofs.BitListLaws.{number_of-below, sign_bit_high, sign_bit_low}
+use Rattle.bits_core.proofs.AdderLaws.{add_by_ripple, subtract_by_ripple, length_ripple_sum, less_equal_by_ripple, ripple_carry_is}
+use Rattle.bits_core.proofs.BitListLaws.{number_of_below, sign_bit_high, sign_bit_low}
 use Rattle.bits_core.proofs.SignedRowLaws.{add_signed, subtract_signed}
-use Rattle.bits_core.proofs.Signs.{half_twice, signed_value-low, signed_value-high}
-use Rattle.bits_core.proofs.Widths.{mod-sub}
+use Rattle.bits_core.proofs.SignLaws.{half_twice, signed_value_low, signed_value_high}
+use Rattle.bits_core.proofs.WidthLaws.{mod_sub}
 
 -- ---- unsigned
 
@@ -33,7 +33,7 @@ pub add_or_end : (xs ys : List Bool) → length xs ≡ length ys →
     ≡ (if ripple_carry xs ys false then 2 ^ length xs - 1 else number_of (ripple_sum xs ys false))
 add_or_end xs ys e =
     sum_or_end (number_of xs) (number_of ys) (2 ^ length xs) (number_of (ripple_sum xs ys false)) (ripple_carry xs ys false)
-    (ripple_carry-is xs ys false e) (add_by_ripple xs ys e)
+    (ripple_carry_is xs ys false e) (add_by_ripple xs ys e)
 
 difference_or_zero : (x y p s : ℕ) (carry : Bool) → x < p → carry ≡ nat_le y x → s ≡ (x + (p - y)) % p → y < p →
     x - y ≡ (if carry then s else 0)
@@ -50,10 +50,10 @@ pub subtract_or_zero : (xs ys : List Bool) → length xs ≡ length ys →
     ≡ (if ripple_carry xs (map not ys) true then number_of (ripple_sum xs (map not ys) true) else 0)
 subtract_or_zero xs ys e =
     let w = length xs in
-    let below : number_of ys < 2 ^ w = subst (λ (n : ℕ). number_of ys < 2 ^ n) (sym e) (number_of-below ys) in
+    let below : number_of ys < 2 ^ w = subst (λ (n : ℕ). number_of ys < 2 ^ n) (sym e) (number_of_below ys) in
     difference_or_zero (number_of xs) (number_of ys) (2 ^ w) (number_of (ripple_sum xs (map not ys) true)) (ripple_carry xs (map not ys) true)
-    (number_of-below xs) (less_equal_by_ripple xs ys e)
-    (subtract_by_ripple xs ys e ∙ sym (mod-sub w (number_of xs) (number_of ys) (omega arith))) below
+    (number_of_below xs) (less_equal_by_ripple xs ys e)
+    (subtract_by_ripple xs ys e ∙ sym (mod_sub w (number_of xs) (number_of ys) (omega arith))) below
 
 -- ---- signed: a sum is past the end where two operands of one sign give the other, a difference where two of different
 -- signs give another sign than the first has
@@ -91,8 +91,8 @@ IsRead false p x z = z ≡ pos x
 IsRead true p x z = z ≡ pos x -ℤ pos p
 
 read : (sign : Bool) (w x : ℕ) → HasSign sign (2 ^ (w - 1)) x → IsRead sign (2 ^ w) x (signed_value w x)
-read false w x low = signed_value-low w x low
-read true w x high = signed_value-high w x high
+read false w x low = signed_value_low w x low
+read true w x high = signed_value_high w x high
 
 -- s is the sum or the difference that wraps: n, or n less p
 wraps_to : (s n p : ℕ) → 0 < p → s ≡ n % p → n < p + p → (s ≡ n) ⊎ (s + p ≡ n)
@@ -131,7 +131,7 @@ module _ (w x y s : ℕ) (some : 1 ≤ w) (xfits : x < 2 ^ w) (yfits : y < 2 ^ w
   difference_within : (u : ℕ) → s ≡ (x + (2 ^ w - y)) % 2 ^ w → (signed_value w x -ℤ signed_value w y) +ℤ pos (2 ^ (w - 1)) ≡ pos u → u < 2 * 2 ^ (w - 1) →
       operator_value SubSatS w x w y ≡ s
   difference_within u e z inside =
-      within_ends w u (signed_value w x -ℤ signed_value w y) z inside ∙ subtract_signed w x w y xfits yfits ∙ sym (mod-sub w x y (omega arith)) ∙ sym e
+      within_ends w u (signed_value w x -ℤ signed_value w y) z inside ∙ subtract_signed w x w y xfits yfits ∙ sym (mod_sub w x y (omega arith)) ∙ sym e
 
   subtract_cases : (left right difference : Bool) → HasSign left (2 ^ (w - 1)) x → HasSign right (2 ^ (w - 1)) y → HasSign difference (2 ^ (w - 1)) s →
       s ≡ (x + (2 ^ w - y)) % 2 ^ w → IsRead left (2 ^ w) x (signed_value w x) → IsRead right (2 ^ w) y (signed_value w y) →
@@ -160,14 +160,14 @@ pub add_signed_or_end : (xs ys : List Bool) → 1 ≤ length xs → length xs �
 add_signed_or_end xs ys some e =
     let w = length xs in
     let sum = ripple_sum xs ys false in
-    let below : number_of ys < 2 ^ w = subst (λ (n : ℕ). number_of ys < 2 ^ n) (sym e) (number_of-below ys) in
+    let below : number_of ys < 2 ^ w = subst (λ (n : ℕ). number_of ys < 2 ^ n) (sym e) (number_of_below ys) in
     let left = signed_of xs w refl some (sign_bit xs) refl in
     let right = signed_of ys w (sym e) some (sign_bit ys) refl in
     let is : number_of sum ≡ (number_of xs + number_of ys) % 2 ^ w = add_by_ripple xs ys e in
-    add_cases w (number_of xs) (number_of ys) (number_of sum) some (number_of-below xs) below (sign_bit xs) (sign_bit ys) (sign_bit sum)
-    left right (signed_of sum w (length-ripple_sum xs ys false e) some (sign_bit sum) refl) is
+    add_cases w (number_of xs) (number_of ys) (number_of sum) some (number_of_below xs) below (sign_bit xs) (sign_bit ys) (sign_bit sum)
+    left right (signed_of sum w (length_ripple_sum xs ys false e) some (sign_bit sum) refl) is
     (read (sign_bit xs) w (number_of xs) left) (read (sign_bit ys) w (number_of ys) right) (half_twice w some)
-    (wraps_to (number_of sum) (number_of xs + number_of ys) (2 ^ w) (pow_pos w) is (omega (arith, number_of-below xs)))
+    (wraps_to (number_of sum) (number_of xs + number_of ys) (2 ^ w) (pow_pos w) is (omega (arith, number_of_below xs)))
 
 pub subtract_signed_or_end : (xs ys : List Bool) → 1 ≤ length xs → length xs ≡ length ys →
     operator_value SubSatS (length xs) (number_of xs) (length xs) (number_of ys)
@@ -175,12 +175,12 @@ pub subtract_signed_or_end : (xs ys : List Bool) → 1 ≤ length xs → length 
 subtract_signed_or_end xs ys some e =
     let w = length xs in
     let difference = ripple_sum xs (map not ys) true in
-    let below : number_of ys < 2 ^ w = subst (λ (n : ℕ). number_of ys < 2 ^ n) (sym e) (number_of-below ys) in
+    let below : number_of ys < 2 ^ w = subst (λ (n : ℕ). number_of ys < 2 ^ n) (sym e) (number_of_below ys) in
     let left = signed_of xs w refl some (sign_bit xs) refl in
     let right = signed_of ys w (sym e) some (sign_bit ys) refl in
     let is : number_of difference ≡ (number_of xs + (2 ^ w - number_of ys)) % 2 ^ w =
-    subtract_by_ripple xs ys e ∙ sym (mod-sub w (number_of xs) (number_of ys) (omega arith)) in
-    subtract_cases w (number_of xs) (number_of ys) (number_of difference) some (number_of-below xs) below (sign_bit xs) (sign_bit ys) (sign_bit difference)
-    left right (signed_of difference w (length-ripple_sum xs (map not ys) true (e ∙ sym (length-map ys not))) some (sign_bit difference) refl) is
+    subtract_by_ripple xs ys e ∙ sym (mod_sub w (number_of xs) (number_of ys) (omega arith)) in
+    subtract_cases w (number_of xs) (number_of ys) (number_of difference) some (number_of_below xs) below (sign_bit xs) (sign_bit ys) (sign_bit difference)
+    left right (signed_of difference w (length_ripple_sum xs (map not ys) true (e ∙ sym (length-map ys not))) some (sign_bit difference) refl) is
     (read (sign_bit xs) w (number_of xs) left) (read (sign_bit ys) w (number_of ys) right) (half_twice w some)
-    (wraps_to (number_of difference) (number_of xs + (2 ^ w - number_of ys)) (2 ^ w) (pow_pos w) is (omega (arith, number_of-below xs)))
+    (wraps_to (number_of difference) (number_of xs + (2 ^ w - number_of ys)) (2 ^ w) (pow_pos w) is (omega (arith, number_of_below xs)))

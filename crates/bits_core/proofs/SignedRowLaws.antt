@@ -8,15 +8,15 @@ use Rattle.std.proofs.lemmas.Int.{ints}
 use Rattle.bits_core.specs.declared.operator.Op.TheVariants.{Add, Sub, Mul, Neg}
 use Rattle.bits_core.specs.Number.{signed_value, wrapped}
 use Rattle.bits_core.specs.Operator.{operator_value}
-use Rattle.bits_core.proofs.Signs.{signed_value-low, signed_value-high, signed_value-negsuc}
-use Rattle.bits_core.proofs.Widths.{wrapped_is, mod-sub}
+use Rattle.bits_core.proofs.SignLaws.{signed_value_low, signed_value_high, signed_value_negsuc}
+use Rattle.bits_core.proofs.WidthLaws.{wrapped_is, mod_sub}
 
 -- by the two cases of a signed value
 by_sign : (w x : ℕ) (P : ℤ → Type 0) → x < 2 ^ w → P (pos x) → P (pos x -ℤ pos (2 ^ w)) → P (signed_value w x)
 by_sign w x P fits low high =
     ⊎_elim
-    (λ (below : x < 2 ^ (w - 1)). subst P (sym (signed_value-low w x below)) low)
-    (λ (above : 2 ^ (w - 1) ≤ x). subst P (sym (signed_value-high w x above)) high)
+    (λ (below : x < 2 ^ (w - 1)). subst P (sym (signed_value_low w x below)) low)
+    (λ (above : 2 ^ (w - 1) ≤ x). subst P (sym (signed_value_high w x above)) high)
     (cases_lt x (2 ^ (w - 1)))
 
 pub add_signed : (w x v y : ℕ) → x < 2 ^ w → y < 2 ^ w →
@@ -44,7 +44,7 @@ subtract_signed w x v y p q =
     (by_sign w y (λ z. wrapped w (pos x -ℤ z) ≡ m % 2 ^ w) q (wrapped_is w (pos x -ℤ pos y) 1 m none) (wrapped_is w (pos x -ℤ (pos y -ℤ pos (2 ^ w))) 0 m right))
     (by_sign w y (λ z. wrapped w ((pos x -ℤ pos (2 ^ w)) -ℤ z) ≡ m % 2 ^ w) q (wrapped_is w ((pos x -ℤ pos (2 ^ w)) -ℤ pos y) 2 m left)
     (wrapped_is w ((pos x -ℤ pos (2 ^ w)) -ℤ (pos y -ℤ pos (2 ^ w))) 1 m both))
-    ∙ mod-sub w x y (omega arith)
+    ∙ mod_sub w x y (omega arith)
 
 pub negate_signed : (w x v y : ℕ) → x < 2 ^ w → wrapped w (pos 0 -ℤ signed_value w x) ≡ operator_value Neg w x v y
 negate_signed w x v y p =
@@ -53,7 +53,7 @@ negate_signed w x v y p =
     let high : (pos 0 -ℤ (pos x -ℤ pos (2 ^ w))) +ℤ pos (0 * 2 ^ w) ≡ pos m = omega (arith, ints) in
     by_sign w x (λ z. wrapped w (pos 0 -ℤ z) ≡ m % 2 ^ w) p
     (wrapped_is w (pos 0 -ℤ pos x) 1 m low) (wrapped_is w (pos 0 -ℤ (pos x -ℤ pos (2 ^ w))) 0 m high)
-    ∙ mod-sub w 0 x (omega arith)
+    ∙ mod_sub w 0 x (omega arith)
 
 -- ---- products: a negative value is -(a + 1), where a is what its bits lack to all ones
 
@@ -76,8 +76,8 @@ both a b x y e =
 by_bits : (w x : ℕ) (P : ℤ → Type 0) → x < 2 ^ w → P (pos x) → P (negsuc (2 ^ w - 1 - x)) → P (signed_value w x)
 by_bits w x P fits low high =
     ⊎_elim
-    (λ (below : x < 2 ^ (w - 1)). subst P (sym (signed_value-low w x below)) low)
-    (λ (above : 2 ^ (w - 1) ≤ x). subst P (sym (signed_value-negsuc w x above fits)) high)
+    (λ (below : x < 2 ^ (w - 1)). subst P (sym (signed_value_low w x below)) low)
+    (λ (above : 2 ^ (w - 1) ≤ x). subst P (sym (signed_value_negsuc w x above fits)) high)
     (cases_lt x (2 ^ (w - 1)))
 
 pub multiply_signed : (w x v y : ℕ) → x < 2 ^ w → y < 2 ^ w →

@@ -1,9 +1,5 @@
 -- A number as the list of its bits, least significant first, and the two readings between them.
-use Rattle.std.specs.Prelude.{ℕ, suc, zero, ◌+◌, ◌-◌, ◌*◌, ◌/◌, ◌%◌, ◌^◌, Bool, false, ◌==◌, if◌then◌else◌, List, [], ◌∷◌, length, slice_index_or}
-
--- whether the bit of x at a place is set
-abbrev pub bit : ℕ → ℕ → Bool
-bit x place = x / 2 ^ place % 2 == 1
+use Rattle.std.specs.Prelude.{ℕ, suc, zero, ◌+◌, ◌-◌, ◌*◌, ◌/◌, ◌%◌, Bool, false, ◌==◌, if◌then◌else◌, List, [], ◌∷◌, length, slice_index_or}
 
 abbrev pub bit_value : Bool → ℕ
 bit_value b = if b then 1 else 0

@@ -38,17 +38,21 @@ shifted_right fill n xs = drop n xs ++ replicate n fill
 
 abbrev pub shift_and_add : List Bool → List Bool → List Bool → List Bool
 shift_and_add sum xs [] = sum
-shift_and_add sum xs (y ∷ ys) = shift_and_add (ripple_sum sum (map (λ x. y && x) xs) false) (shifted_left 1 xs) ys
+shift_and_add sum xs (y ∷ ys) =
+    shift_and_add (ripple_sum sum (map (λ x. y && x) xs) false) (shifted_left 1 xs) ys
 
 -- ---- shifts by a number: stage k shifts by 2^k places where bit k of the amount is set, but by no more than there are
 
 abbrev pub barrel_left : ℕ → List Bool → List Bool → List Bool
 barrel_left k xs [] = xs
-barrel_left k xs (b ∷ bs) = barrel_left (suc k) (if b then shifted_left (min (2 ^ k) (length xs)) xs else xs) bs
+barrel_left k xs (b ∷ bs) =
+    barrel_left (suc k) (if b then shifted_left (min (2 ^ k) (length xs)) xs else xs) bs
 
 abbrev pub barrel_right : Bool → ℕ → List Bool → List Bool → List Bool
 barrel_right fill k xs [] = xs
-barrel_right fill k xs (b ∷ bs) = barrel_right fill (suc k) (if b then shifted_right fill (min (2 ^ k) (length xs)) xs else xs) bs
+barrel_right fill k xs (b ∷ bs) =
+    barrel_right fill (suc k)
+    (if b then shifted_right fill (min (2 ^ k) (length xs)) xs else xs) bs
 
 -- ---- comparison
 
@@ -77,9 +81,11 @@ end_of xs = if sign_bit xs then 2 ^ (length xs - 1) else 2 ^ (length xs - 1) - 1
 -- two operands of one sign cannot give the other
 abbrev pub signed_sum_or_end : List Bool → List Bool → List Bool → ℕ
 signed_sum_or_end xs ys sum =
-    if not (exclusive_or (sign_bit xs) (sign_bit ys)) && exclusive_or (sign_bit xs) (sign_bit sum) then end_of xs else number_of sum
+    if not (exclusive_or (sign_bit xs) (sign_bit ys)) && exclusive_or (sign_bit xs) (sign_bit sum)
+    then end_of xs else number_of sum
 
 -- what is less an operand of the other sign cannot change its own
 abbrev pub signed_difference_or_end : List Bool → List Bool → List Bool → ℕ
 signed_difference_or_end xs ys difference =
-    if exclusive_or (sign_bit xs) (sign_bit ys) && exclusive_or (sign_bit xs) (sign_bit difference) then end_of xs else number_of difference
+    if exclusive_or (sign_bit xs) (sign_bit ys) && exclusive_or (sign_bit xs) (sign_bit difference)
+    then end_of xs else number_of difference

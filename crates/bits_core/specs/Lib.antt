@@ -2,3 +2,4 @@ pub mod BitList
 pub mod Circuit
 pub mod Number
 pub mod Operator
+pub mod Place

@@ -1,6 +1,6 @@
 -- The operators on numbers of fixed width: what they take, and what they give. A number stands here as its width and its
 -- value. Each part of the table names the section of the P4-16 language specification that it restates.
-use Rattle.std.specs.Prelude.{ℕ, ◌+◌, ◌-◌, ◌*◌, ◌/◌, ◌%◌, ◌^◌, ◌≤◌, ◌≡◌, ⊤, min, pos, ◌+ℤ◌, ◌-ℤ◌, ◌==◌, nat_lt, nat_le, int_lt, int_le, bit_and, bit_or, bit_xor, if◌then◌else◌}
+use Rattle.std.specs.Prelude.{ℕ, ◌+◌, ◌-◌, ◌*◌, ◌/◌, ◌%◌, ◌^◌, ◌≤◌, ◌≡◌, ⊤, min, pos, ◌+ℤ◌, ◌-ℤ◌, ◌==◌, Bool, false, nat_lt, nat_le, int_lt, int_le, bit_and, bit_or, bit_xor, if◌then◌else◌}
 use Rattle.std.specs.Int.{saturate_to_bits, int_div_euclid}
 use Rattle.bits_core.specs.declared.operator.Op.{Op}
 use Rattle.bits_core.specs.declared.operator.Op.TheVariants.{Add, Sub, Mul, AddSatU, SubSatU, AddSatS, SubSatS, And, Or, Xor, Not, Neg, Shl, ShrU, ShrS, Cat, Eq, LtU, LeU, LtS, LeS}
@@ -53,6 +53,16 @@ result_width Shift w v = w
 result_width Join w v = w + v
 result_width Test w v = 1
 
+-- Whether the comparison holds of x and y, both of w bits; no other operator is one. In "Operations on fixed-width bit
+-- types" and "Operations on fixed-width signed integers".
+abbrev pub test_value : Op → ℕ → ℕ → ℕ → Bool
+test_value Eq w x y = x == y
+test_value LtU w x y = nat_lt x y
+test_value LeU w x y = nat_le x y
+test_value LtS w x y = int_lt (signed_value w x) (signed_value w y)
+test_value LeS w x y = int_le (signed_value w x) (signed_value w y)
+test_value op w x y = false
+
 -- The value of the operator's result on x of w bits and y of v bits. What is said of `signed_value` is of type `int<W>`.
 abbrev pub operator_value : Op → ℕ → ℕ → ℕ → ℕ → ℕ
 -- "Operations on fixed-width bit types" and "Operations on fixed-width signed integers": `+`, `-` and `*` wrap. The bits
@@ -64,8 +74,10 @@ operator_value Mul w x v y = (x * y) % 2 ^ w
 -- -2^h to 2^h - 1 that is nearest to z.
 operator_value AddSatU w x v y = min (x + y) (2 ^ w - 1)
 operator_value SubSatU w x v y = x - y
-operator_value AddSatS w x v y = wrapped w (saturate_to_bits (w - 1) (signed_value w x +ℤ signed_value w y))
-operator_value SubSatS w x v y = wrapped w (saturate_to_bits (w - 1) (signed_value w x -ℤ signed_value w y))
+operator_value AddSatS w x v y =
+    wrapped w (saturate_to_bits (w - 1) (signed_value w x +ℤ signed_value w y))
+operator_value SubSatS w x v y =
+    wrapped w (saturate_to_bits (w - 1) (signed_value w x -ℤ signed_value w y))
 -- In the same sections: `&`, `|`, `^` and `~` work bit by bit, and the unary `-` is 0 less its operand.
 operator_value And w x v y = bit_and x y
 operator_value Or w x v y = bit_or x y
@@ -79,9 +91,9 @@ operator_value ShrU w x v y = x / 2 ^ min y w
 operator_value ShrS w x v y = wrapped w (int_div_euclid (signed_value w x) (pos (2 ^ min y w)))
 -- "Concatenation": `++` puts the bits of x above those of y.
 operator_value Cat w x v y = x * 2 ^ v + y
--- In the first two sections: comparisons, whose Boolean is here a number of one bit.
-operator_value Eq w x v y = if x == y then 1 else 0
-operator_value LtU w x v y = if nat_lt x y then 1 else 0
-operator_value LeU w x v y = if nat_le x y then 1 else 0
-operator_value LtS w x v y = if int_lt (signed_value w x) (signed_value w y) then 1 else 0
-operator_value LeS w x v y = if int_le (signed_value w x) (signed_value w y) then 1 else 0
+-- A comparison's Boolean is here a number of one bit.
+operator_value Eq w x v y = if test_value Eq w x y then 1 else 0
+operator_value LtU w x v y = if test_value LtU w x y then 1 else 0
+operator_value LeU w x v y = if test_value LeU w x y then 1 else 0
+operator_value LtS w x v y = if test_value LtS w x y then 1 else 0
+operator_value LeS w x v y = if test_value LeS w x y then 1 else 0

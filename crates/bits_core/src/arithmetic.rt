@@ -1,13 +1,14 @@
-// The rows that wrap: sum, difference, product and negation modulo 2^width.
-ghost use Rattle.std.specs.Prelude.{◌≡◌, ◌+◌, ◌*◌, ◌%◌, ◌^◌, pos, ◌-ℤ◌};
-ghost use Rattle.bits_core.specs.Number.{wrapped};
+//! The rows that wrap: sum, difference, product and negation modulo 2^width.
+ghost use Rattle.std.specs.Prelude.{◌≡◌};
+ghost use Rattle.bits_core.specs.declared.operator.Op.TheVariants.{Add, Sub, Mul, Neg};
+ghost use Rattle.bits_core.specs.Operator.{operator_value};
 
 use crate::number::{Bits, cut};
 
 pub(crate) fn add(a: Bits, b: Bits) -> Bits
     requires { a.width ≡ b.width }
     ensures width { result.width ≡ a.width }
-    ensures value { result.value ≡ (a.value + b.value) % 2 ^ a.width }
+    ensures value { result.value ≡ operator_value Add a.width a.value b.width b.value }
 {
     Bits {
         width: a.width,
@@ -18,7 +19,7 @@ pub(crate) fn add(a: Bits, b: Bits) -> Bits
 pub(crate) fn subtract(a: Bits, b: Bits) -> Bits
     requires { a.width ≡ b.width }
     ensures width { result.width ≡ a.width }
-    ensures value { result.value ≡ wrapped a.width (pos a.value -ℤ pos b.value) }
+    ensures value { result.value ≡ operator_value Sub a.width a.value b.width b.value }
 {
     Bits {
         width: a.width,
@@ -29,7 +30,7 @@ pub(crate) fn subtract(a: Bits, b: Bits) -> Bits
 pub(crate) fn multiply(a: Bits, b: Bits) -> Bits
     requires { a.width ≡ b.width }
     ensures width { result.width ≡ a.width }
-    ensures value { result.value ≡ (a.value * b.value) % 2 ^ a.width }
+    ensures value { result.value ≡ operator_value Mul a.width a.value b.width b.value }
 {
     Bits {
         width: a.width,
@@ -39,7 +40,7 @@ pub(crate) fn multiply(a: Bits, b: Bits) -> Bits
 
 pub(crate) fn negate(a: Bits) -> Bits
     ensures width { result.width ≡ a.width }
-    ensures value { result.value ≡ wrapped a.width (pos 0 -ℤ pos a.value) }
+    ensures value { result.value ≡ operator_value Neg a.width a.value 0 0 }
 {
     Bits {
         width: a.width,

@@ -1,12 +1,14 @@
-// The rows that work bit by bit.
-ghost use Rattle.std.specs.Prelude.{◌≡◌, ◌-◌, ◌^◌, bit_and, bit_or, bit_xor};
+//! The rows that work bit by bit.
+ghost use Rattle.std.specs.Prelude.{◌≡◌};
+ghost use Rattle.bits_core.specs.declared.operator.Op.TheVariants.{And, Or, Xor, Not};
+ghost use Rattle.bits_core.specs.Operator.{operator_value};
 
 use crate::number::{Bits, greatest};
 
 pub(crate) fn and(a: Bits, b: Bits) -> Bits
     requires { a.width ≡ b.width }
     ensures width { result.width ≡ a.width }
-    ensures value { result.value ≡ bit_and a.value b.value }
+    ensures value { result.value ≡ operator_value And a.width a.value b.width b.value }
 {
     Bits {
         width: a.width,
@@ -17,7 +19,7 @@ pub(crate) fn and(a: Bits, b: Bits) -> Bits
 pub(crate) fn or(a: Bits, b: Bits) -> Bits
     requires { a.width ≡ b.width }
     ensures width { result.width ≡ a.width }
-    ensures value { result.value ≡ bit_or a.value b.value }
+    ensures value { result.value ≡ operator_value Or a.width a.value b.width b.value }
 {
     Bits {
         width: a.width,
@@ -28,7 +30,7 @@ pub(crate) fn or(a: Bits, b: Bits) -> Bits
 pub(crate) fn xor(a: Bits, b: Bits) -> Bits
     requires { a.width ≡ b.width }
     ensures width { result.width ≡ a.width }
-    ensures value { result.value ≡ bit_xor a.value b.value }
+    ensures value { result.value ≡ operator_value Xor a.width a.value b.width b.value }
 {
     Bits {
         width: a.width,
@@ -38,7 +40,7 @@ pub(crate) fn xor(a: Bits, b: Bits) -> Bits
 
 pub(crate) fn not(a: Bits) -> Bits
     ensures width { result.width ≡ a.width }
-    ensures value { result.value ≡ 2 ^ a.width - 1 - a.value }
+    ensures value { result.value ≡ operator_value Not a.width a.value 0 0 }
 {
     Bits {
         width: a.width,

@@ -1,4 +1,4 @@
-// The one call for all operators: each row of the table goes to the function that it names.
+//! The one call for all operators: each row of the table goes to the function that it names.
 ghost use Rattle.std.specs.Prelude.{◌≡◌};
 ghost use Rattle.bits_core.specs.Operator.{WidthsFit, shape_of, result_width, operator_value};
 

@@ -1,5 +1,5 @@
-// A number of a fixed width, and the cut that every row ends with.
-ghost use Rattle.std.specs.Prelude.{◌≡◌, ◌-◌, ◌%◌, ◌^◌, ◌<◌, ◌≤◌};
+//! A number of a fixed width, how one is made, and the cut that every row ends with.
+ghost use Rattle.std.specs.Prelude.{◌≡◌, ◌-◌, ◌%◌, ◌^◌, ◌<◌, ◌≤◌, ◌↔◌, IsSome, IfSome};
 
 /// A number of 1 to 128 bits, `bit<width>` or `int<width>` of P4-16: which of the two is for the operator to say. For a
 /// signed number `value` has its two's complement.
@@ -10,6 +10,35 @@ pub struct Bits {
     pub ghost some_bit: { 1 ≤ width },
     pub ghost at_most_128: { width ≤ 128 },
     pub ghost fits: { value < 2 ^ width },
+}
+
+impl Bits {
+    /// The number with this width and value, where there is one: for what comes from outside.
+    pub fn new(width: u8, value: u128) -> Option<Bits>
+        ensures some { IsSome result ↔ ((1 ≤ width) × (width ≤ 128) × (value < 2 ^ width)) }
+        ensures width { IfSome result (λ b. b.width ≡ width) }
+        ensures value { IfSome result (λ b. b.value ≡ value) }
+    {
+        if 1 <= width && width <= 128 && value <= greatest(width) {
+            Some(Bits { width, value })
+        } else {
+            None
+        }
+    }
+
+    /// The number of the lowest `width` bits of `value`, which is `value` itself where that fits.
+    pub fn wrapping(width: u8, value: u128) -> Bits
+        requires some_bit { 1 ≤ width }
+        requires at_most_128 { width ≤ 128 }
+        ensures width { result.width ≡ width }
+        ensures value { result.value ≡ value % 2 ^ width }
+        ensures same { value < 2 ^ width → result.value ≡ value }
+    {
+        Bits {
+            width,
+            value: cut(value, width),
+        }
+    }
 }
 
 /// The greatest number of `width` bits. The shift stays below 128, where `1 << 128` would not.

@@ -1,4 +1,4 @@
-// The operators, their shapes, and the one table of both.
+//! The operators, their shapes, and the one table of both.
 
 /// An operator on numbers of fixed width, as P4-16 has them on `bit<W>` and `int<W>`. Where the two types differ the name
 /// ends in U for the unsigned one and S for the signed one; `Sat` saturates in place of wrapping.

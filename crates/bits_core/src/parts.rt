@@ -1,20 +1,11 @@
-// Joins, slices and changes of width.
-ghost use Rattle.std.specs.Prelude.{◌≡◌, ◌+◌, ◌-◌, ◌*◌, ◌^◌, ◌<◌, ◌≤◌};
+//! Slices, changes of width, and joins.
+ghost use Rattle.std.specs.Prelude.{◌≡◌, ◌+◌, ◌-◌, ◌<◌, ◌≤◌};
+ghost use Rattle.bits_core.specs.declared.operator.Op.TheVariants.{Cat};
 ghost use Rattle.bits_core.specs.Number.{slice_value, extend_value};
+ghost use Rattle.bits_core.specs.Operator.{operator_value};
 
 use crate::number::{Bits, cut, greatest};
 use crate::sign::is_negative;
-
-pub(crate) fn concatenate(a: Bits, b: Bits) -> Bits
-    requires { a.width + b.width ≤ 128 }
-    ensures width { result.width ≡ a.width + b.width }
-    ensures value { result.value ≡ a.value * 2 ^ b.width + b.value }
-{
-    Bits {
-        width: a.width + b.width,
-        value: (a.value << b.width) | b.value,
-    }
-}
 
 /// The bits of `a` from place `high` down to place `low`, both among them: `a[high:low]`.
 pub fn slice(a: Bits, high: u8, low: u8) -> Bits
@@ -43,4 +34,15 @@ pub fn extend(a: Bits, width: u8, signed: bool) -> Bits
         cut(a.value, width)
     };
     Bits { width, value }
+}
+
+pub(crate) fn concatenate(a: Bits, b: Bits) -> Bits
+    requires { a.width + b.width ≤ 128 }
+    ensures width { result.width ≡ a.width + b.width }
+    ensures value { result.value ≡ operator_value Cat a.width a.value b.width b.value }
+{
+    Bits {
+        width: a.width + b.width,
+        value: (a.value << b.width) | b.value,
+    }
 }

@@ -1,4 +1,4 @@
-// What a term is read at: the bits of the input, and a value for each numbered read.
+//! What a term is read at: the bits of the input, and a value for each numbered read.
 use crate::number::Bits;
 use sqlite_items::Items;
 

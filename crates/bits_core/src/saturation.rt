@@ -1,23 +1,15 @@
-// The rows that stop at the ends of the type.
-ghost use Rattle.std.specs.Prelude.{◌≡◌, ◌+◌, ◌-◌, ◌^◌, ◌≤◌, ◌<◌, min, ◌+ℤ◌, ◌-ℤ◌};
-ghost use Rattle.std.specs.Int.{saturate_to_bits};
-ghost use Rattle.bits_core.specs.Number.{signed_value, wrapped};
+//! The rows that stop at the ends of the type.
+ghost use Rattle.std.specs.Prelude.{◌≡◌, ◌+◌, ◌≤◌, min};
+ghost use Rattle.bits_core.specs.declared.operator.Op.TheVariants.{AddSatU, SubSatU, AddSatS, SubSatS};
+ghost use Rattle.bits_core.specs.Operator.{operator_value};
 
 use crate::number::{Bits, greatest};
 use crate::sign::{biased, from_biased, half};
 
-/// The sum, or `end` where it is greater. The sum itself may be past 2^128.
-fn sum_up_to(end: u128, x: u128, y: u128) -> u128
-    requires { x ≤ end }
-    ensures { result ≡ min (x + y) end }
-{
-    if y < end - x { x + y } else { end }
-}
-
 pub(crate) fn add_saturating_unsigned(a: Bits, b: Bits) -> Bits
     requires { a.width ≡ b.width }
     ensures width { result.width ≡ a.width }
-    ensures value { result.value ≡ min (a.value + b.value) (2 ^ a.width - 1) }
+    ensures value { result.value ≡ operator_value AddSatU a.width a.value b.width b.value }
 {
     Bits {
         width: a.width,
@@ -28,7 +20,7 @@ pub(crate) fn add_saturating_unsigned(a: Bits, b: Bits) -> Bits
 pub(crate) fn subtract_saturating_unsigned(a: Bits, b: Bits) -> Bits
     requires { a.width ≡ b.width }
     ensures width { result.width ≡ a.width }
-    ensures value { result.value ≡ a.value - b.value }
+    ensures value { result.value ≡ operator_value SubSatU a.width a.value b.width b.value }
 {
     Bits {
         width: a.width,
@@ -39,8 +31,7 @@ pub(crate) fn subtract_saturating_unsigned(a: Bits, b: Bits) -> Bits
 pub(crate) fn add_saturating_signed(a: Bits, b: Bits) -> Bits
     requires { a.width ≡ b.width }
     ensures width { result.width ≡ a.width }
-    ensures value { result.value
-        ≡ wrapped a.width (saturate_to_bits (a.width - 1) (signed_value a.width a.value +ℤ signed_value b.width b.value)) }
+    ensures value { result.value ≡ operator_value AddSatS a.width a.value b.width b.value }
 {
     let half = half(a.width);
     let left = biased(a);
@@ -56,8 +47,7 @@ pub(crate) fn add_saturating_signed(a: Bits, b: Bits) -> Bits
 pub(crate) fn subtract_saturating_signed(a: Bits, b: Bits) -> Bits
     requires { a.width ≡ b.width }
     ensures width { result.width ≡ a.width }
-    ensures value { result.value
-        ≡ wrapped a.width (saturate_to_bits (a.width - 1) (signed_value a.width a.value -ℤ signed_value b.width b.value)) }
+    ensures value { result.value ≡ operator_value SubSatS a.width a.value b.width b.value }
 {
     let half = half(a.width);
     let left = biased(a);
@@ -68,4 +58,12 @@ pub(crate) fn subtract_saturating_signed(a: Bits, b: Bits) -> Bits
         left.saturating_sub(right - half)
     };
     from_biased(difference, a.width)
+}
+
+/// The sum, or `end` where it is greater: of `y` is taken what there is room for, since the sum may be past 2^128.
+fn sum_up_to(end: u128, x: u128, y: u128) -> u128
+    requires { x ≤ end }
+    ensures { result ≡ min (x + y) end }
+{
+    x + y.min(end - x)
 }

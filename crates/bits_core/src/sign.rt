@@ -1,5 +1,5 @@
-// Two's complement by way of a bias: `biased` adds half the range to the signed value, so that signed values have the
-// order and the clamps of plain numbers, at 128 bits too.
+//! Two's complement by way of a bias: `biased` adds half the range to the signed value, so that signed values have the
+//! order and the clamps of plain numbers, at 128 bits too.
 ghost use Rattle.std.specs.Prelude.{◌≡◌, ◌-◌, ◌^◌, ◌<◌, ◌≤◌, pos, ◌+ℤ◌, ◌-ℤ◌, IsTrue, ◌↔◌};
 ghost use Rattle.bits_core.specs.Number.{signed_value, wrapped};
 

@@ -4,7 +4,7 @@ use Rattle.ll1_engine.specs.declared.grammar.Row.{Row}
 use Rattle.ll1_engine.specs.declared.fault.Break.{Break}
 use Rattle.ll1_engine.specs.declared.fault.Break.TheVariants.{Barren, Rank, Nullable as NullableTwice, First, Follow}
 use Rattle.ll1_engine.specs.Table.{IsRow, IsToken}
-use Rattle.ll1_engine.specs.Trees.{DerivesSome, Nullable}
+use Rattle.ll1_engine.specs.Trees.{Productive, Nullable}
 use Rattle.ll1_engine.specs.First.{BeginsWith, InFollow}
 
 -- s is a row of the symbol of row k, other than row k
@@ -15,10 +15,11 @@ pub record IsOther (g : List Row) (k : ℕ) (r : Row) (j : ℕ) (s : Row) : Type
 
 -- each place where t stands in the table is the first of row k
 abbrev pub StandsOnlyFirstIn : List Row → ℕ → ℕ → Type 0
-StandsOnlyFirstIn g t k = (j : ℕ) (s : Row) (before after : List ℕ) → IsRow g j s → s.right ≡ before ++ t ∷ after → (j ≡ k) × (before ≡ [])
+StandsOnlyFirstIn g t k = (j : ℕ) (s : Row) (before after : List ℕ) → IsRow g j s →
+    s.right ≡ before ++ t ∷ after → (j ≡ k) × (before ≡ [])
 
 -- row k, which is r, may have a rank above 0: its first symbol is a token that the table has nowhere else, and the one
--- other row of its symbol is empty and has rank 0. With such a row an `else` goes with the `if` before it
+-- other row of its symbol is empty and has rank 0. With such a row an `else` goes with the nearest `if` before it
 pub record MayRank (g : List Row) (k : ℕ) (r : Row) : Type 0 where
   pub token : ℕ
   pub rest : List ℕ
@@ -63,7 +64,7 @@ pub record MeetsFollow (g : List Row) (k : ℕ) (r : Row) : Type 0 where
 
 -- row k, which is r, meets the condition
 abbrev pub Meets : List Row → ℕ → Row → Break → Type 0
-Meets g k r Barren = DerivesSome g (r.left ∷ [])
+Meets g k r Barren = Productive g (r.left ∷ [])
 Meets g k r Rank = 0 < r.rank → MayRank g k r
 Meets g k r NullableTwice = ¬ BothNullable g k r
 Meets g k r First = ¬ SharesFirst g k r
@@ -71,7 +72,7 @@ Meets g k r Follow = ¬ MeetsFollow g k r
 
 -- row k, which is r, breaks the condition
 abbrev pub Breaks : List Row → ℕ → Row → Break → Type 0
-Breaks g k r Barren = ¬ DerivesSome g (r.left ∷ [])
+Breaks g k r Barren = ¬ Productive g (r.left ∷ [])
 Breaks g k r Rank = (0 < r.rank) × ¬ MayRank g k r
 Breaks g k r NullableTwice = BothNullable g k r
 Breaks g k r First = SharesFirst g k r

@@ -9,7 +9,8 @@ use Rattle.ll1_engine.specs.Trees.{Nullable}
 -- its right side begins with, where the symbols before that one derive the empty list
 pub record IsFirstSet (g : List Row) (t : ℕ) (p : ℕ → Bool) : Type 0 where
   pub itself : IsToken g t → IsTrue (p t)
-  pub row : (k : ℕ) (r : Row) (before : List ℕ) (y : ℕ) (after : List ℕ) → IsRow g k r → r.right ≡ before ++ y ∷ after → Nullable g before → IsTrue (p y) → IsTrue (p r.left)
+  pub row : (k : ℕ) (r : Row) (before : List ℕ) (y : ℕ) (after : List ℕ) → IsRow g k r →
+      r.right ≡ before ++ y ∷ after → Nullable g before → IsTrue (p y) → IsTrue (p r.left)
 
 -- the token is in FIRST of the symbol: the symbol is in each such set
 abbrev pub InFirst : List Row → ℕ → ℕ → Type 0
@@ -29,8 +30,10 @@ pub record BeginsWith (g : List Row) (symbols : List ℕ) (t : ℕ) : Type 0 whe
 -- the symbols after it derive the empty list
 pub record IsFollowSet (g : List Row) (e : Option ℕ) (p : ℕ → Bool) : Type 0 where
   pub start : e ≡ None → IsTrue (p 0)
-  pub next : (k : ℕ) (r : Row) (before : List ℕ) (y : ℕ) (after : List ℕ) (t : ℕ) → IsRow g k r → r.right ≡ before ++ y ∷ after → e ≡ Some t → BeginsWith g after t → IsTrue (p y)
-  pub left : (k : ℕ) (r : Row) (before : List ℕ) (y : ℕ) (after : List ℕ) → IsRow g k r → r.right ≡ before ++ y ∷ after → Nullable g after → IsTrue (p r.left) → IsTrue (p y)
+  pub next : (k : ℕ) (r : Row) (before : List ℕ) (y : ℕ) (after : List ℕ) (t : ℕ) → IsRow g k r →
+      r.right ≡ before ++ y ∷ after → e ≡ Some t → BeginsWith g after t → IsTrue (p y)
+  pub left : (k : ℕ) (r : Row) (before : List ℕ) (y : ℕ) (after : List ℕ) → IsRow g k r →
+      r.right ≡ before ++ y ∷ after → Nullable g after → IsTrue (p r.left) → IsTrue (p y)
 
 -- the token, or the end, is in FOLLOW of the symbol: the symbol is in each such set
 abbrev pub InFollow : List Row → ℕ → Option ℕ → Type 0

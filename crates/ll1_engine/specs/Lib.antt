@@ -5,4 +5,5 @@ pub mod Conditions
 pub mod Parse
 pub mod Prediction
 pub mod Marks
-pub mod Survey
+pub mod Relations
+pub mod Analysis

@@ -1,5 +1,5 @@
 -- Sets of symbols as marks, one for each symbol, and how a pass over the rows widens them.
-use Rattle.std.specs.Prelude.{◌≡◌, ℕ, ◌+◌, ◌<◌, ◌≤◌, suc, Bool, true, false, ◌&&◌, ◌||◌, IsTrue, IsFalse, List, [], ◌∷◌, length, drop, slice_index, slice_index_or}
+use Rattle.std.specs.Prelude.{◌≡◌, ℕ, ◌<◌, ◌≤◌, suc, Bool, true, false, ◌&&◌, ◌||◌, IsTrue, IsFalse, List, [], ◌∷◌, length, slice_index_or}
 use Rattle.std.specs.List.{AllByRecursion}
 use Rattle.ll1_engine.specs.declared.grammar.Row.{Row}
 use Rattle.ll1_engine.specs.Trees.{Trees, roots, leaves, AreTrees}
@@ -48,22 +48,6 @@ AllDerive g seed marks = (x : ℕ) → Has marks x → DerivesWithin g seed (x �
 -- the left of the row is in the set, where its right side is
 abbrev pub ClosedAt : (ℕ → Bool) → Row → Type 0
 ClosedAt p r = IsTrue (all_in p r.right) → IsTrue (p r.left)
-
--- the left of the row is in the set, where its right side begins with one that is
-abbrev pub FirstClosedAt : (ℕ → Bool) → (ℕ → Bool) → Row → Type 0
-FirstClosedAt nullable p r = IsTrue (begins_in p nullable r.right) → IsTrue (p r.left)
-
--- a symbol follows those before it in a row of x: the symbols after it begin with one in `first`, or are all
--- nullable and x is in the set
-abbrev pub follows_in : (ℕ → Bool) → (ℕ → Bool) → (ℕ → Bool) → ℕ → List ℕ → Bool
-follows_in first nullable p x after = begins_in first nullable after || (p x && all_in nullable after)
-
--- the symbol at place i of the row is in the set, where that holds of the symbols after it
-abbrev pub FollowClosedAt : (ℕ → Bool) → (ℕ → Bool) → (ℕ → Bool) → Row → ℕ → Type 0
-FollowClosedAt first nullable p r i = i < length r.right → IsTrue (follows_in first nullable p r.left (drop (i + 1) r.right)) → IsTrue (p (slice_index r.right i))
-
-abbrev pub FollowClosed : (ℕ → Bool) → (ℕ → Bool) → (ℕ → Bool) → Row → Type 0
-FollowClosed first nullable p r = (i : ℕ) → FollowClosedAt first nullable p r i
 
 -- what is marked is in the set
 abbrev pub Within : List Bool → (ℕ → Bool) → Type 0

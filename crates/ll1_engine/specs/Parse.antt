@@ -3,7 +3,7 @@ use Rattle.std.specs.Prelude.{◌≡◌, ℕ, ◌+◌, ◌<◌, ◌≤◌, List,
 use Rattle.std.specs.List.{AllByRecursion}
 use Rattle.ll1_engine.specs.declared.grammar.Row.{Row}
 use Rattle.ll1_engine.specs.Table.{IsRow, IsToken}
-use Rattle.ll1_engine.specs.Trees.{Trees, End, Leaf, Node, roots, leaves, preorder, AreTrees, Derives}
+use Rattle.ll1_engine.specs.Trees.{Trees, End, Leaf, Node, roots, leaves, preorder, AreTrees}
 
 -- the first of the tokens, or what stands after them
 abbrev pub first_or : List ℕ → Option ℕ → Option ℕ
@@ -13,13 +13,16 @@ first_or (t ∷ ts) after = Some t
 -- a node by row k, at whose start `next` stands, is by the row of its symbol that has a rank and begins with that
 -- token, where there is one
 abbrev pub TakesRank : List Row → ℕ → Row → Option ℕ → Type 0
-TakesRank g k r next = (j : ℕ) (s : Row) (t : ℕ) (rest : List ℕ) → IsRow g j s → s.left ≡ r.left → 0 < s.rank → s.right ≡ t ∷ rest → next ≡ Some t → j ≡ k
+TakesRank g k r next = (j : ℕ) (s : Row) (t : ℕ) (rest : List ℕ) → IsRow g j s →
+    s.left ≡ r.left → 0 < s.rank → s.right ≡ t ∷ rest → next ≡ Some t → j ≡ k
 
 -- the ranks allow each node of these trees, after which `next` stands
 abbrev pub RanksAllow : List Row → Trees → Option ℕ → Type 0
 RanksAllow g End next = Unit {0}
 RanksAllow g (Leaf x after) next = RanksAllow g after next
-RanksAllow g (Node k r below after) next = TakesRank g k r (first_or (leaves below ++ leaves after) next) × RanksAllow g below (first_or (leaves after) next) × RanksAllow g after next
+RanksAllow g (Node k r below after) next =
+    TakesRank g k r (first_or (leaves below ++ leaves after) next)
+    × RanksAllow g below (first_or (leaves after) next) × RanksAllow g after next
 
 -- one tree from the start symbol has these rows in preorder and these leaves, and the ranks allow it
 pub record IsTreeOf (g : List Row) (rows tokens : List ℕ) : Type 0 where
@@ -31,15 +34,20 @@ pub record IsTreeOf (g : List Row) (rows tokens : List ℕ) : Type 0 where
   pub order : preorder tree ≡ rows
   pub ranks : RanksAllow g tree None
 
--- the tokens are the start of a list that the start symbol derives
+-- the tokens have a tree that the ranks allow
+pub record HasTree (g : List Row) (tokens : List ℕ) : Type 0 where
+  pub rows : List ℕ
+  pub tree : IsTreeOf g rows tokens
+
+-- the tokens are the start of a list that has a tree
 pub record CanGoOn (g : List Row) (tokens : List ℕ) : Type 0 where
   pub rest : List ℕ
-  pub derives : Derives g (0 ∷ []) (tokens ++ rest)
+  pub whole : HasTree g (tokens ++ rest)
 
--- The tokens before the place can go on, and with the one at the place they cannot. At the end of the tokens: they can
--- go on, and are not themselves derived.
+-- The place of the first token such that no list that has a tree begins with the tokens up to it; the end, where there
+-- is no such token and the tokens have no tree.
 pub record StopsAt (g : List Row) (tokens : List ℕ) (place : ℕ) : Type 0 where
   pub within : place ≤ length tokens
   pub before : CanGoOn g (take place tokens)
   pub stuck : place < length tokens → ¬ CanGoOn g (take (place + 1) tokens)
-  pub underived : ¬ Derives g (0 ∷ []) tokens
+  pub treeless : ¬ HasTree g tokens

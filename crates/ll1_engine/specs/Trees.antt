@@ -44,7 +44,7 @@ pub record Derives (g : List Row) (symbols tokens : List ℕ) : Type 0 where
   pub terminal : AllByRecursion (IsToken g) tokens
 
 -- the symbols derive some list of tokens
-pub record DerivesSome (g : List Row) (symbols : List ℕ) : Type 0 where
+pub record Productive (g : List Row) (symbols : List ℕ) : Type 0 where
   pub tokens : List ℕ
   pub derives : Derives g symbols tokens
 

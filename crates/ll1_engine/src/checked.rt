@@ -5,25 +5,25 @@ ghost use Rattle.std.specs.List.{AllByRecursion};
 ghost use Rattle.std.specs.Option.{ForSome};
 ghost use Rattle.ll1_engine.specs.Table.{IsToken, FitsIn};
 ghost use Rattle.ll1_engine.specs.Conditions.{IsGood};
-ghost use Rattle.ll1_engine.specs.Survey.{IsSurvey};
-ghost use Rattle.ll1_engine.specs.Prediction.{PicksFirst, PicksNullable, Predicts};
+ghost use Rattle.ll1_engine.specs.Analysis.{IsAnalysis};
+ghost use Rattle.ll1_engine.specs.Prediction.{PredictsFirst, PredictsNullable, Predicts};
 
+use crate::analysis::{AllTokenSets, Analysis};
 use crate::grammar::{Row, Rows, Symbol, Token, copied};
-use crate::survey::{Sights, Survey};
 use sqlite_items::Items;
 use std::alloc::{AllocError, Global};
 use std::marker::Model;
 
 /// For each symbol a row, or none.
-pub(crate) type Choices = Items<Option<usize>>;
+pub(crate) type Predictions = Items<Option<usize>>;
 
 /// A grammar whose rows meet the five conditions.
 #[derive(Debug, Drop)]
 pub struct Checked<const S: usize, const R: usize> {
     rows: Rows,
     tokens: Vec<bool>,
-    firsts: Vec<Choices>,
-    nullables: Choices,
+    first_predictions: Vec<Predictions>,
+    nullable_predictions: Predictions,
 }
 
 impl<const S: usize, const R: usize> Model for Checked<S, R> {
@@ -35,35 +35,36 @@ impl<const S: usize, const R: usize> Model for Checked<S, R> {
 
     ghost view = { λ c. c.rows };
 
-    ghost invariant = { λ c. IsPrepared S R c.rows c.tokens.items c.firsts.items c.nullables };
+    ghost invariant = { λ c.
+        IsPrepared S R c.rows c.tokens.items c.first_predictions.items c.nullable_predictions };
 }
 
 impl<const S: usize, const R: usize> Checked<S, R> {
     /// A good table, with what was found out of it.
-    pub(crate) fn new(alloc: Global, rows: &[Row], seen: Survey) -> Result<Self, AllocError>
+    pub(crate) fn new(alloc: Global, rows: &[Row], analysis: Analysis) -> Result<Self, AllocError>
         requires fits { FitsIn S R rows.now }
         requires good { IsGood rows.now }
-        requires seen { IsSurvey S rows.now seen }
+        requires analysis { IsAnalysis S rows.now analysis }
         ensures { IfOk result (λ checked. checked ≡ rows.now) }
     {
         let rows = copied(alloc, rows)?;
-        let Survey {
+        let Analysis {
             tokens,
-            alive: _,
-            empty: _,
-            nullables,
-            sights,
-        } = seen;
-        let Sights {
-            begun: _,
+            productive: _,
+            nullable_rows: _,
+            nullable_predictions,
+            token_sets,
+        } = analysis;
+        let AllTokenSets {
+            first_rows: _,
             follows: _,
-            firsts,
-        } = sights;
+            first_predictions,
+        } = token_sets;
         Ok(Checked {
             rows,
             tokens,
-            firsts,
-            nullables,
+            first_predictions,
+            nullable_predictions,
         })
     }
 
@@ -110,17 +111,17 @@ impl<const S: usize, const R: usize> Checked<S, R> {
     fn first_row(&self, symbol: Symbol, token: Token) -> Option<usize>
         requires symbol { symbol < S }
         requires token { token < S }
-        ensures { PicksFirst self.now token symbol result }
+        ensures { PredictsFirst self.now token symbol result }
     {
-        self.firsts[token].as_slice()[symbol]
+        self.first_predictions[token].as_slice()[symbol]
     }
 
     /// The row of the symbol that derives the empty list.
     fn nullable_row(&self, symbol: Symbol) -> Option<usize>
         requires { symbol < S }
-        ensures { PicksNullable self.now symbol result }
+        ensures { PredictsNullable self.now symbol result }
     {
-        self.nullables.as_slice()[symbol]
+        self.nullable_predictions.as_slice()[symbol]
     }
 
     /// The row to take for a symbol where the token, or the end, stands next.

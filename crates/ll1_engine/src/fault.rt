@@ -35,7 +35,7 @@ pub enum CheckFault {
     Memory(AllocError),
 }
 
-/// Where a parse stops: behind the longest front of the tokens that some derived list begins with.
+/// Where a parse stops: behind the longest prefix of the tokens that some list with a tree begins with.
 #[derive(Clone, Copy, Debug, PartialEq, Eq)]
 pub struct Stop {
     pub at: usize,

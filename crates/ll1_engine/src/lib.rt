@@ -3,19 +3,18 @@
 //! past which no list with a tree can go on.
 #![tactic(auto)]
 
+mod analysis;
 mod check;
 mod checked;
 mod fault;
 mod grammar;
+pub mod laws;
 mod parser;
+mod relations;
 mod sets;
-mod survey;
 
 pub use check::check_table;
 pub use checked::Checked;
 pub use fault::{Break, CheckFault, ParseFault, Stop, TableFault};
 pub use grammar::{Grammar, Row, Rows, Symbol, Symbols, Token};
 pub use parser::{Tree, parse};
-
-#[cfg(test)]
-mod tests;

@@ -80,8 +80,10 @@ pub fn parse<const S: usize, const R: usize>(
 ) -> Result<Tree, ParseFault>
     requires { AllByRecursion (λ t. (t < S) × IsToken checked.now t) tokens.now }
     ensures tree { IfOk result (λ tree. IsTreeOf checked.now tree tokens.now) }
-    ensures only { IfOk result (λ tree. (other : List ℕ) → IsTreeOf checked.now other tokens.now → other ≡ tree) }
-    ensures stop { (stop : Stop) → result ≡ Err (ParseFault.Stop stop) → StopsAt checked.now tokens.now stop.at }
+    ensures only { IfOk result
+        (λ tree. (other : List ℕ) → IsTreeOf checked.now other tokens.now → other ≡ tree) }
+    ensures stop { (stop : Stop) → result ≡ Err (ParseFault.Stop stop) →
+        StopsAt checked.now tokens.now stop.at }
 {
     let table = checked.rows();
     let mut stack = Stack::new(alloc);

@@ -1,2 +1,2 @@
-pub mod WordLemmas
-pub mod BranchLemmas
+pub mod WordsLemmas
+pub mod SourceLemmas

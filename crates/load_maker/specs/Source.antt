@@ -1,11 +1,25 @@
 -- The source of a number and a size: the skeleton of docs/FORMATS.md with a struct of two fields, and with one assignment
 -- and then so many branches in its ingress. Each four branches are one of each kind: a port of its own, an impossible
 -- port, two ports at once, and a field that nothing sets.
-use Rattle.std.specs.Prelude.{ℕ, ◌+◌, ◌*◌, ◌/◌, ◌%◌, ◌==◌, List, [], ◌∷◌, ◌++◌, codes, if◌then◌else◌}
+use Rattle.std.specs.Prelude.{ℕ, ◌+◌, ◌*◌, ◌/◌, ◌%◌, ◌≤◌, ◌==◌, List, [], ◌∷◌, ◌++◌, codes, if◌then◌else◌}
 use Prim.Native.Nat.{zero, suc}
 use Rattle.std.specs.Fmt.{decimal}
 use Rattle.std.specs.List.{concat}
 use Rattle.load_maker.specs.Words.{word_at, generator_of}
+
+-- ports are drawn below this number, and field values below that one
+abbrev pub ports : ℕ
+ports = 510
+
+abbrev pub values : ℕ
+values = 256
+
+-- the most branches of a source, which has one at least
+abbrev pub most_branches : ℕ
+most_branches = 1000
+
+abbrev pub IsSize : ℕ → Type 0
+IsSize size = (1 ≤ size) × (size ≤ most_branches)
 
 -- what stands before the branches, and after them
 abbrev pub head : List ℕ
@@ -41,16 +55,16 @@ unset_field_branch field value = concat (codes "    if (m.u == " ∷ decimal fie
 -- the branch of a place, where the base is this and the words that it draws are these
 abbrev pub branch : ℕ → (ℕ → ℕ) → ℕ → List ℕ
 branch base words place =
-    if place % 4 == 0 then own_port_branch (1 + (base + place / 4) % 510) (words 0 % 256)
-    else if place % 4 == 1 then no_port_branch (words 0 % 256)
-    else if place % 4 == 2 then two_ports_branch (words 0 % 510) (words 1 % 256)
-    else unset_field_branch (words 0 % 256) (words 1 % 256)
+    if place % 4 == 0 then own_port_branch (1 + (base + place / 4) % ports) (words 0 % values)
+    else if place % 4 == 1 then no_port_branch (words 0 % values)
+    else if place % 4 == 2 then two_ports_branch (words 0 % ports) (words 1 % values)
+    else unset_field_branch (words 0 % values) (words 1 % values)
 
 -- the branch of a place in the source of a number
 abbrev pub branch_at : ℕ → ℕ → List ℕ
 branch_at number place =
     let words = word_at (generator_of number) in
-    branch (words 0 % 510) (λ k. words (words_before place + k)) place
+    branch (words 0 % ports) (λ k. words (words_before place + k)) place
 
 -- the branches of so many places, from 0 on
 unfoldable pub branches : ℕ → ℕ → List ℕ

@@ -5,7 +5,5 @@
 #![tactic(auto)]
 
 mod source;
-#[cfg(test)]
-mod tests;
 
-pub use source::{MAX_SIZE, make_source};
+pub use source::{MAX_SIZE, is_size, make_source};

@@ -1,8 +1,7 @@
 //! The source of a number and a size.
-ghost use Rattle.std.specs.Prelude.{◌≡◌, ◌++◌, ◌%◌, ◌<◌, ◌≤◌, OnOk, IfOk, string_bytes};
-ghost use Rattle.load_maker.specs.Source.{own_port_branch, no_port_branch, two_ports_branch, unset_field_branch, branch, draws_of, load_source};
+ghost use Rattle.std.specs.Prelude.{◌≡◌, ◌++◌, ◌%◌, ◌<◌, ◌↔◌, IsTrue, OnOk, IfOk, string_bytes};
+ghost use Rattle.load_maker.specs.Source.{ports, most_branches, IsSize, own_port_branch, no_port_branch, two_ports_branch, unset_field_branch, branch, draws_of, load_source};
 ghost use Rattle.load_maker.specs.Words.{after_words, word_at};
-ghost use Rattle.load_maker.specs.declared.source.TheConstants.{MAX_SIZE};
 
 use rand_core::utils::NextWord;
 use rand_pcg::Lcg64Xsh32;
@@ -25,47 +24,26 @@ const HEAD: &str =
 const TAIL: &str =
     "  }\n}\ncontrol E(inout H h, inout M m, inout standard_metadata_t s) { apply { } }\ncontrol C(inout H h, inout M m) { apply { } }\ncontrol D(packet_out b, in H h) { apply { } }\nV1Switch(P(), V(), I(), E(), C(), D()) main;\n";
 
-/// The next word's remainder by a number.
-#[tactic(auto, unfolding(crate::specs::Words::after_words))]
-fn draw(words: &mut Lcg64Xsh32, below: u32) -> u32
-    requires { 0 < below }
-    ensures value { result ≡ word_at words.old 0 % below }
-    ensures words { words.new ≡ after_words 1 words.old }
+/// Whether a source can have so many branches.
+pub fn is_size(size: u32) -> bool
+    ensures { IsTrue result ↔ IsSize size }
 {
-    words.next_word() % below
+    1 <= size && size <= MAX_SIZE
 }
 
-/// A branch for one port.
-fn push_own_port(text: &mut String, port: u32, value: u32) -> Result<(), AllocError>
-    ensures { OnOk result (string_bytes text.new ≡ string_bytes text.old ++ own_port_branch port value) }
+/// The source with so many branches, whose numbers are drawn from the generator that starts at `number`.
+pub fn make_source(alloc: Global, number: u64, size: u32) -> Result<Vec<u8>, AllocError>
+    requires { IsSize size }
+    ensures { IfOk result (λ bytes. bytes.items ≡ load_source number size) }
 {
-    write!(text, "    if (s.ingress_port == {port}) m.y = {value};\n")
-}
-
-/// A branch for a port that no input has.
-fn push_no_port(text: &mut String, value: u32) -> Result<(), AllocError>
-    ensures { OnOk result (string_bytes text.new ≡ string_bytes text.old ++ no_port_branch value) }
-{
-    write!(text, "    if (s.ingress_port > 510) m.y = {value};\n")
-}
-
-/// A branch for two ports at once.
-fn push_two_ports(text: &mut String, port: u32, value: u32) -> Result<(), AllocError>
-    requires { port < 510 }
-    ensures { OnOk result (string_bytes text.new ≡ string_bytes text.old ++ two_ports_branch port value) }
-{
-    let next = port + 1;
-    write!(
-        text,
-        "    if (s.ingress_port == {port} && s.ingress_port == {next}) m.y = {value};\n"
-    )
-}
-
-/// A branch that an unset field decides.
-fn push_unset_field(text: &mut String, field: u32, value: u32) -> Result<(), AllocError>
-    ensures { OnOk result (string_bytes text.new ≡ string_bytes text.old ++ unset_field_branch field value) }
-{
-    write!(text, "    if (m.u == {field}) m.y = {value};\n")
+    let mut words = Lcg64Xsh32::new(number, 0);
+    let base = draw(&mut words, PORTS);
+    let mut text = String::from_str(alloc, HEAD)?;
+    for place in 0..size {
+        push_branch(&mut text, &mut words, base, place)?;
+    }
+    text.push_str(TAIL)?;
+    Ok(text.into_bytes())
 }
 
 /// Adds the branch of a place.
@@ -76,8 +54,8 @@ fn push_branch(
     base: u32,
     place: u32,
 ) -> Result<(), AllocError>
-    requires base { base < 510 }
-    requires place { place < 1000 }
+    requires base { base < ports }
+    requires place { place < most_branches }
     ensures branch { OnOk result
         (string_bytes text.new ≡ string_bytes text.old ++ branch base (word_at words.old) place) }
     ensures words { words.new ≡ after_words (draws_of place) words.old }
@@ -105,18 +83,45 @@ fn push_branch(
     }
 }
 
-/// The source with so many branches, whose numbers are drawn from the generator that starts at `number`.
-pub fn make_source(alloc: Global, number: u64, size: u32) -> Result<Vec<u8>, AllocError>
-    requires some { 1 ≤ size }
-    requires most { size ≤ MAX_SIZE }
-    ensures { IfOk result (λ bytes. bytes.items ≡ load_source number size) }
+/// A branch for one port.
+fn push_own_port(text: &mut String, port: u32, value: u32) -> Result<(), AllocError>
+    ensures { OnOk result (string_bytes text.new ≡ string_bytes text.old ++ own_port_branch port value) }
 {
-    let mut words = Lcg64Xsh32::new(number, 0);
-    let base = draw(&mut words, PORTS);
-    let mut text = String::from_str(alloc, HEAD)?;
-    for place in 0..size {
-        push_branch(&mut text, &mut words, base, place)?;
-    }
-    text.push_str(TAIL)?;
-    Ok(text.into_bytes())
+    write!(text, "    if (s.ingress_port == {port}) m.y = {value};\n")
+}
+
+/// A branch for a port that no input has.
+fn push_no_port(text: &mut String, value: u32) -> Result<(), AllocError>
+    ensures { OnOk result (string_bytes text.new ≡ string_bytes text.old ++ no_port_branch value) }
+{
+    write!(text, "    if (s.ingress_port > 510) m.y = {value};\n")
+}
+
+/// A branch for two ports at once.
+fn push_two_ports(text: &mut String, port: u32, value: u32) -> Result<(), AllocError>
+    requires { port < ports }
+    ensures { OnOk result (string_bytes text.new ≡ string_bytes text.old ++ two_ports_branch port value) }
+{
+    let next = port + 1;
+    write!(
+        text,
+        "    if (s.ingress_port == {port} && s.ingress_port == {next}) m.y = {value};\n"
+    )
+}
+
+/// A branch that an unset field decides.
+fn push_unset_field(text: &mut String, field: u32, value: u32) -> Result<(), AllocError>
+    ensures { OnOk result (string_bytes text.new ≡ string_bytes text.old ++ unset_field_branch field value) }
+{
+    write!(text, "    if (m.u == {field}) m.y = {value};\n")
+}
+
+/// The next word's remainder by a number.
+#[tactic(auto, unfolding(crate::specs::Words::after_words))]
+fn draw(words: &mut Lcg64Xsh32, below: u32) -> u32
+    requires { 0 < below }
+    ensures value { result ≡ word_at words.old 0 % below }
+    ensures words { words.new ≡ after_words 1 words.old }
+{
+    words.next_word() % below
 }

@@ -1,4 +1,12 @@
 pub mod Answer
+pub mod Calls
+pub mod CalmDesk
 pub mod Code
 pub mod Faults
+pub mod Files
+pub mod MemDesk
 pub mod Moment
+pub mod Outputs
+pub mod Reading
+pub mod Session
+pub mod Telling

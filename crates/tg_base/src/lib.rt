@@ -1,11 +1,23 @@
-//! What every crate stands on.
+//! What every crate stands on: places in a source, the codes of refusals, and the desk through
+//! which the generator reads sources and writes tests.
+//!
+//! The trait [`Desk`] says in its clauses all that the layers above may rely on. [`MemDesk`] and
+//! [`CalmDesk`] keep files and outputs in memory. The desk over real files is the program's.
 #![tactic(auto)]
 
+mod calls;
+mod calm_desk;
 mod desk;
 pub mod laws;
+mod mem_desk;
+mod open_file;
+mod outputs;
 mod place;
+mod session;
 
+pub use calm_desk::CalmDesk;
 pub use desk::{Desk, DeskFault, Out};
+pub use mem_desk::MemDesk;
 pub use place::{Code, Refusal, Span};
 use sqlite_items::Items;
 

@@ -1,4 +1,4 @@
-use Rattle.bits_core.proofs.Widths.{ones_shr_complement}
+use Rattle.bits_core.proofs.WidthLaws.{ones_shr_complement}
 use Rattle.bits_core.proofs.number.greatest.Goals as goal
 
 pub returns : goal.returns

@@ -1,5 +1,5 @@
 use Rattle.std.proofs.Common.{ℕ, ◌+◌, ◌<◌, ◌^◌, subst, sym}
-use Rattle.bits_core.proofs.Widths.{cat_below, or_of_shifted}
+use Rattle.bits_core.proofs.WidthLaws.{cat_below, or_of_shifted}
 use Rattle.bits_core.proofs.parts.concatenate.Goals as goal
 
 pub invariant_of-result-clause-fits : goal.invariant_of-result-clause-fits

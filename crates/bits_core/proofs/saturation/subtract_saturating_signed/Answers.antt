@@ -1,8 +1,9 @@
 use Rattle.std.proofs.Common.{◌∙◌, ◌≡◌, ◌+◌, ◌-◌, ◌*◌, ◌^◌, ◌<◌, ℕ, min, ap, sym, pos, arith}
 use Rattle.std.specs.Prelude.{◌+ℤ◌, ◌-ℤ◌}
+use Rattle.std.specs.Int.{saturate_to_bits}
 use Rattle.std.proofs.lemmas.Int.{ints}
 use Rattle.bits_core.specs.Number.{signed_value, wrapped}
-use Rattle.bits_core.proofs.Signs.{half_twice, saturate_biased}
+use Rattle.bits_core.proofs.SignLaws.{half_twice, saturate_biased}
 use Rattle.bits_core.proofs.saturation.subtract_saturating_signed.Goals as goal
 use Rattle.bits_core.proofs.saturation.subtract_saturating_signed.Goals.{then-right-half, else-right-half}
 
@@ -37,3 +38,4 @@ returns-clause-value c =
     c.from_biased.ensures.value
     ∙ ap (λ (n : ℕ). wrapped c.args.a.width (pos n -ℤ pos (2 ^ (c.args.a.width - 1)))) (difference_is c)
     ∙ ap (wrapped c.args.a.width) (saturate_biased (c.args.a.width - 1) (top c) (left -ℤ right) (biased_is c))
+    ∙ ap (λ (v : ℕ). wrapped c.args.a.width (saturate_to_bits (c.args.a.width - 1) (left -ℤ signed_value v c.args.b.value))) (sym c.requires)

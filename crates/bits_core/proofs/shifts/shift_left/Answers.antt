@@ -1,5 +1,5 @@
 use Rattle.std.proofs.Common.{◌∙◌}
-use Rattle.bits_core.proofs.Widths.{shl_within, shl_past}
+use Rattle.bits_core.proofs.WidthLaws.{shl_within, shl_past}
 use Rattle.bits_core.proofs.shifts.shift_left.Goals as goal
 use Rattle.bits_core.proofs.shifts.shift_left.Goals.{then-b-a, else-b-a}
 

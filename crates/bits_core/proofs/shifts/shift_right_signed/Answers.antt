@@ -1,5 +1,5 @@
 use Rattle.std.proofs.Common.{◌∙◌, ◌≡◌, ◌-◌, ◌/◌, ◌^◌, min, rules}
-use Rattle.bits_core.proofs.Signs.{shr_low, shr_high}
+use Rattle.bits_core.proofs.SignLaws.{shr_low, shr_high}
 use Rattle.bits_core.proofs.shifts.shift_right_signed.Goals as goal
 use Rattle.bits_core.proofs.shifts.shift_right_signed.Goals.{then-is_negative, else-is_negative}
 

@@ -1,4 +1,4 @@
-use Rattle.bits_core.proofs.Signs.{low_fits}
+use Rattle.bits_core.proofs.SignLaws.{low_fits}
 use Rattle.bits_core.proofs.sign.biased.Goals as goal
 
 pub overflow_add-result : goal.overflow_add-result

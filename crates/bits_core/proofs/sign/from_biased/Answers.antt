@@ -1,5 +1,5 @@
 use Rattle.std.proofs.Common.{◌∙◌, ◌≡◌, ◌+◌, ◌-◌, ◌^◌, arith}
-use Rattle.bits_core.proofs.Signs.{low_fits, wrapped-biased_low, wrapped-biased_high}
+use Rattle.bits_core.proofs.SignLaws.{low_fits, wrapped_biased_low, wrapped_biased_high}
 use Rattle.bits_core.proofs.sign.from_biased.Goals as goal
 use Rattle.bits_core.proofs.sign.from_biased.Goals.{then-biased-half, else-biased-half}
 
@@ -11,8 +11,8 @@ returns-clause-value c =
     elim c.if-biased-half.branch [
       | then-biased-half w ↦
           let e : c.if-biased-half.value ≡ c.args.biased + 2 ^ (c.args.width - 1) = cc in
-          e ∙ wrapped-biased_low c.args.width c.args.biased c.requires.some_bit (omega arith)
+          e ∙ wrapped_biased_low c.args.width c.args.biased c.requires.some_bit (omega arith)
       | else-biased-half w ↦
           let e : c.if-biased-half.value ≡ c.args.biased - 2 ^ (c.args.width - 1) = cc in
-          e ∙ wrapped-biased_high c.args.width c.args.biased (omega arith) c.requires.fits
+          e ∙ wrapped_biased_high c.args.width c.args.biased (omega arith) c.requires.fits
     ]

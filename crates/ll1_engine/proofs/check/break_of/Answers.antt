@@ -1,6 +1,6 @@
 use Rattle.std.proofs.Common.{arith}
 use Rattle.ll1_engine.specs.Conditions.{Meets}
-use Rattle.ll1_engine.proofs.CheckLaws.{before_rank, before_follow}
+use Rattle.ll1_engine.proofs.ConditionsLemmas.{before_rank, before_follow}
 use Rattle.ll1_engine.proofs.check.break_of.Goals as goal
 
 pub returns-then-breaks_barren : goal.returns-then-breaks_barren

@@ -3,7 +3,7 @@ use Rattle.std.proofs.lemmas.Bool.{cases_lt}
 use Rattle.std.proofs.lemmas.Option.{slice_get_within}
 use Rattle.ll1_engine.specs.Table.{IsRow}
 use Rattle.ll1_engine.specs.Conditions.{Meets}
-use Rattle.ll1_engine.proofs.CheckLaws.{row_at}
+use Rattle.ll1_engine.proofs.ConditionsLemmas.{row_at}
 use Rattle.ll1_engine.proofs.check.first_break.Goals as goal
 
 pub returns-in-Some : goal.returns-in-Some

@@ -1,6 +1,6 @@
 use Rattle.std.proofs.Common.{◌≡◌, ◌<◌, ◌∷◌, length, drop, get_or, ap, sym, ◌∙◌}
 use Rattle.ll1_engine.specs.declared.grammar.Row.{Row}
-use Rattle.ll1_engine.proofs.CheckLaws.{row_read, may_rank_match, first_of_right, head_below}
+use Rattle.ll1_engine.proofs.ConditionsLemmas.{row_read, may_rank_match, first_of_right, head_below}
 use Rattle.ll1_engine.proofs.check.may_rank.Goals as goal
 
 pub returns : goal.returns

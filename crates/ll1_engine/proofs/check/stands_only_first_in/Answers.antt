@@ -3,8 +3,8 @@ use Rattle.std.proofs.lemmas.Bool.{false≢true, cases_lt}
 use Rattle.std.proofs.lemmas.Option.{slice_get_read, slice_get_within}
 use Rattle.ll1_engine.specs.declared.grammar.Row.{Row}
 use Rattle.ll1_engine.specs.Table.{IsRow}
-use Rattle.ll1_engine.proofs.Beside.{same_row}
-use Rattle.ll1_engine.proofs.CheckLaws.{LacksPast, stands_from_lacks, lacks_from_stands}
+use Rattle.ll1_engine.proofs.TreesLemmas.{same_row}
+use Rattle.ll1_engine.proofs.ConditionsLemmas.{LacksPast, stands_from_lacks, lacks_from_stands}
 use Rattle.ll1_engine.proofs.check.stands_only_first_in.Goals as goal
 
 pub returns-then-not-lacks_from : goal.returns-then-not-lacks_from

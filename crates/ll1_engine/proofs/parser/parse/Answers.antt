@@ -6,7 +6,7 @@ use Rattle.ll1_engine.specs.declared.fault.Stop.{Stop}
 use Rattle.ll1_engine.specs.declared.grammar.Row.{Row}
 use Rattle.ll1_engine.specs.Prediction.{Predicts}
 use Rattle.ll1_engine.specs.Parse.{first_or, IsTreeOf, StopsAt}
-use Rattle.ll1_engine.proofs.Parsing.{IsUnderWay, ok_gives, predicted, under_way_start, under_way_token, under_way_row, stop_at_token, stop_at_symbol, stop_at_end, tree_at_end, only_at_end}
+use Rattle.ll1_engine.proofs.UnderWayLemmas.{IsUnderWay, ok_gives, predicted, under_way_start, under_way_token, under_way_row, stop_at_token, stop_at_symbol, stop_at_end, tree_at_end, only_at_end}
 use Rattle.ll1_engine.proofs.parser.parse.Goals as goal
 
 pub loop-symbol-init : goal.loop-symbol-init

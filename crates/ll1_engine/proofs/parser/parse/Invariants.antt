@@ -1,5 +1,5 @@
 use Rattle.std.proofs.Common.{◌+◌, ◌-◌, ◌^◌, length, vec_len}
-use Rattle.ll1_engine.proofs.Parsing.{IsUnderWay}
+use Rattle.ll1_engine.proofs.UnderWayLemmas.{IsUnderWay}
 use Rattle.ll1_engine.proofs.parser.parse.Given as goal
 
 -- the stack is what is to be derived after the tokens before `at`

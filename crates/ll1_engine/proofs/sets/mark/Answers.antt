@@ -1,5 +1,5 @@
-use Rattle.ll1_engine.proofs.MarkLaws.{Widens-set}
+use Rattle.ll1_engine.proofs.MarksLemmas.{Widens_set}
 use Rattle.ll1_engine.proofs.sets.mark.Goals as goal
 
 pub returns-clause-widens : goal.returns-clause-widens
-returns-clause-widens c = Widens-set c.args.marks.now c.args.symbol c.requires
+returns-clause-widens c = Widens_set c.args.marks.now c.args.symbol c.requires

@@ -3,13 +3,13 @@ use Rattle.std.proofs.Common.{◌≡◌, ℕ, ◌%◌, ◌++◌, List, Vec, Glob
 use Rattle.rand_pcg.specs.Lcg.{Lcg}
 use Rattle.load_maker.specs.Source.{head, tail, branch, branches, draws_of, words_before}
 use Rattle.load_maker.specs.Words.{after_words, word_at, generator_of}
-use Rattle.load_maker.proofs.BranchLemmas.{head-none, branches-next, branch_at-drawn, words_before-next}
-use Rattle.load_maker.proofs.WordLemmas.{after_words-add}
+use Rattle.load_maker.proofs.SourceLemmas.{head_none, branches_next, branch_at_drawn, words_before_next}
+use Rattle.load_maker.proofs.WordsLemmas.{after_words_add}
 use Rattle.load_maker.proofs.source.make_source.Goals as goal
 
 pub loop-place-init : goal.loop-place-init
 loop-place-init c = record {
-  text = c.in_ok-text.ensures.ok ∙ head-none c.args.number;
+  text = c.in_ok-text.ensures.ok ∙ head_none c.args.number;
   words = c.draw-base.ensures.words ∙ ap (after_words 1) c.new-words.ensures;
 }
 
@@ -25,12 +25,12 @@ loop-place-preserved c =
           c.in_ok-push_branch.ensures.branch ∙ ap (λ (xs : List ℕ). xs ++ added) c.loop-place.invariant.text
           ∙ append_assoc head (branches number place) added
           ∙ ap (λ (xs : List ℕ). head ++ xs)
-          (ap (λ (xs : List ℕ). branches number place ++ xs) (branch_at-drawn number c.draw-base.result place c.loop-place.words drawn c.loop-place.invariant.words)
-          ∙ sym (branches-next number place));
+          (ap (λ (xs : List ℕ). branches number place ++ xs) (branch_at_drawn number c.draw-base.result place c.loop-place.words drawn c.loop-place.invariant.words)
+          ∙ sym (branches_next number place));
       words =
           c.in_ok-push_branch.ensures.words ∙ ap (after_words (draws_of place)) c.loop-place.invariant.words
-          ∙ after_words-add (words_before place) (draws_of place) start
-          ∙ ap (λ (n : ℕ). after_words n start) (words_before-next place);
+          ∙ after_words_add (words_before place) (draws_of place) start
+          ∙ ap (λ (n : ℕ). after_words n start) (words_before_next place);
     }
 
 pub returns : goal.returns
