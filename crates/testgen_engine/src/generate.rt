@@ -122,7 +122,8 @@ fn generate<D: Desk>(alloc: Global, job: Job<'_>, desk: &mut D) -> Result<Status
 pub fn run<D: Desk>(alloc: Global, words: &[String], desk: &mut D) -> Result<Status, DeskFault>
     ensures ends { Ended (D.moment desk.old) (D.moment desk.new)
         (map string_bytes words.now) result }
-    ensures reads { (name : List ℕ) (bounds : Bounds) → AsksGen (map string_bytes words.now) name bounds
+    ensures reads { (name : List ℕ) (bounds : Bounds)
+        → AsksGen (map string_bytes words.now) name bounds
         → ReadsOnly (D.moment desk.old) (D.moment desk.new) name }
     ensures nothing_read { AsksNothing (map string_bytes words.now)
         → KeepsReading (D.moment desk.old) (D.moment desk.new) }
