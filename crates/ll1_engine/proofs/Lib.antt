@@ -4,6 +4,7 @@ pub mod MayRankLemmas
 pub mod PredictionLemmas
 pub mod StateLemmas
 pub mod HasTreeLemmas
+pub mod OpenLemmas
 pub mod StopsAtLemmas
 pub mod UnderWayLemmas
 pub mod MarksLemmas

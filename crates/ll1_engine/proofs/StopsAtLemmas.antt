@@ -50,11 +50,11 @@ productive g good (x ∷ xs) = Productive_append g (x ∷ []) xs (productive_sym
 pub tree_found : (g : List Row) (tokens rows : List ℕ) → AreTokens g tokens → State g tokens [] rows [] → IsTreeOf g rows tokens
 tree_found g tokens rows t st =
     let s = st.grown [] (record { trees = End; valid = tt; top = refl; bottom = refl; order = refl; ranks = tt }) in
-    record { tree = s.trees; valid = s.valid; top = s.top; bottom = s.bottom ∙ append-nil tokens; terminal = t; order = s.order ∙ append-nil rows; ranks = s.ranks }
+    record { tree = s.trees; allowed = record { valid = s.valid; top = s.top; bottom = s.bottom ∙ append-nil tokens; terminal = t; ranks = s.ranks }; order = s.order ∙ append-nil rows }
 
 pub tree_only : (g : List Row) (tokens rows other : List ℕ) → State g tokens [] rows [] → IsTreeOf g other tokens → other ≡ rows
 tree_only g tokens rows other st t =
-    let q = st.only other (record { trees = t.tree; valid = t.valid; top = t.top; bottom = t.bottom ∙ sym (append-nil tokens); order = t.order; ranks = t.ranks }) in
+    let q = st.only other (let a = t.allowed in record { trees = t.tree; valid = a.valid; top = a.top; bottom = a.bottom ∙ sym (append-nil tokens); order = t.order; ranks = a.ranks }) in
     q.2 ∙ (ap (λ (zs : List ℕ). rows ++ zs) (no_rows q.0 q.1) ∙ append-nil rows)
   where
     none : (f : Trees) (more : List ℕ) → roots f ≡ [] → preorder f ≡ more → more ≡ []
@@ -71,9 +71,9 @@ past : (g : List Row) (taken tokens : List ℕ) (place : ℕ) (more : List ℕ) 
 past g taken tokens place [] at w none lt c = absurd (let e : length tokens ≡ length taken + 0 = ap length w ∙ length-append taken [] in omega arith)
 past g taken tokens place (t ∷ us) at w none lt c =
     let front : take (place + 1) tokens ≡ taken ++ t ∷ [] = ap (λ (zs : List ℕ). take (place + 1) zs) (w ∙ sym (append_assoc taken (t ∷ []) us)) ∙ take_at (taken ++ t ∷ []) us (place + 1) (let e : length (taken ++ t ∷ []) ≡ length taken + 1 = length-append taken (t ∷ []) in omega arith) in
-    let d = c.whole.tree in
+    let d = c.whole.tree.allowed in
     none (t ∷ c.rest) refl (record {
-      trees = d.tree;
+      trees = c.whole.tree.tree;
       valid = d.valid;
       top = d.top;
       bottom = d.bottom ∙ (ap (λ (zs : List ℕ). zs ++ c.rest) front ∙ append_assoc taken (t ∷ []) c.rest);
@@ -96,7 +96,7 @@ stopped g good tokens taken rest rows stack whole terminal st stuck place at =
         });
       });
       stuck = λ lt c. past g taken tokens place rest at whole (λ ts e sp. stuck ts e (st.any ts e sp)) lt c;
-      treeless = λ h. (let d = h.tree in stuck rest refl (st.any rest refl (record { trees = d.tree; valid = d.valid; top = d.top; bottom = d.bottom ∙ whole })));
+      treeless = λ h. (let d = h.tree.allowed in stuck rest refl (st.any rest refl (record { trees = h.tree.tree; valid = d.valid; top = d.top; bottom = d.bottom ∙ whole })));
     }
   where
     front : take place tokens ≡ taken

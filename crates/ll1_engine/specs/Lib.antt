@@ -1,5 +1,6 @@
 pub mod Table
 pub mod Trees
+pub mod Open
 pub mod First
 pub mod Conditions
 pub mod Parse
