@@ -6,5 +6,6 @@ pub mod Conditions
 pub mod Parse
 pub mod Prediction
 pub mod Marks
+pub mod Closed
 pub mod Relations
 pub mod Analysis
