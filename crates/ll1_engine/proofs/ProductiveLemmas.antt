@@ -6,7 +6,7 @@ use Rattle.std.proofs.lemmas.Bool.{cases_Bool, false≢true}
 use Rattle.ll1_engine.specs.declared.grammar.Row.{Row}
 use Rattle.ll1_engine.specs.declared.fault.Break.TheVariants.{Barren}
 use Rattle.ll1_engine.specs.Table.{IsRow, IsToken}
-use Rattle.ll1_engine.specs.Trees.{Trees, End, Leaf, Node, roots, leaves, Productive}
+use Rattle.ll1_engine.specs.Trees.{End, Leaf, Node, roots, leaves, Productive}
 use Rattle.ll1_engine.specs.Conditions.{IsGood}
 use Rattle.ll1_engine.proofs.TreesLemmas.{beside, roots_beside, leaves_beside, AreTrees_beside}
 use Rattle.ll1_engine.proofs.FirstLemmas.{AreTokens_append, is_left, left_is, row_of_left}
