@@ -1,10 +1,9 @@
 -- What a finished parse has found, and what a stopped one shows. Each symbol derives some list, so the stack that is
 -- left once a token has matched derives one too. Hence the place of a stop is exact.
-use Rattle.std.proofs.Common.{◌≡◌, ℕ, ◌+◌, ◌<◌, ◌≤◌, true, false, List, [], ◌∷◌, ◌++◌, length, take, None, refl, sym, ap, ◌∙◌, subst, inl, inr, append_assoc, arith}
+use Rattle.std.proofs.Common.{◌≡◌, ℕ, ◌+◌, ◌<◌, ◌≤◌, List, [], ◌∷◌, ◌++◌, length, take, None, refl, sym, ap, ◌∙◌, subst, append_assoc, arith}
 use Rattle.std.proofs.lemmas.List.{append-nil, take_at, length-append}
 use Rattle.ll1_engine.specs.declared.grammar.Row.{Row}
-use Rattle.ll1_engine.specs.Table.{IsToken}
-use Rattle.ll1_engine.specs.Trees.{Trees, End, Leaf, Node, roots, leaves, preorder, Productive}
+use Rattle.ll1_engine.specs.Trees.{Trees, End, Leaf, Node, roots, preorder, Productive}
 use Rattle.ll1_engine.specs.Conditions.{IsGood}
 use Rattle.ll1_engine.specs.Parse.{first_or, IsTreeOf, CanGoOn, StopsAt}
 use Rattle.ll1_engine.proofs.FirstLemmas.{AreTokens, AreTokens_append, AreTokens_parts}
