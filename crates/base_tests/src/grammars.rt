@@ -30,13 +30,14 @@ const B: usize = 5;
 
 type Line = (u32, usize, &'static [usize]);
 
-/// Statements: `x = if x y | other`, `y = else x | nothing`, where the row of `else` has this rank.
+/// The tokens of statements.
 const IF: usize = A;
 
 const OTHER: usize = B;
 
 const ELSE: usize = Z;
 
+/// Statements: `x = if x y | other`, `y = else x | nothing`, where the row of `else` has a rank.
 const NEAREST: &[Line] = &[
     (0, X, &[IF, X, Y]),
     (0, X, &[OTHER]),
@@ -44,6 +45,7 @@ const NEAREST: &[Line] = &[
     (0, Y, &[]),
 ];
 
+/// The same without a rank.
 const DANGLING: &[Line] = &[
     (0, X, &[IF, X, Y]),
     (0, X, &[OTHER]),
@@ -61,6 +63,55 @@ const SUM: &[Line] = &[
     (0, Z, &[]),
     (0, Y, &[B]),
     (0, Y, &[W, X, W]),
+];
+
+/// Token lists with the rows of their trees.
+const TREES: [(&str, &[Line], &[usize], &[usize]); 9] = [
+    (
+        "an else of the inner if",
+        NEAREST,
+        &[IF, IF, OTHER, ELSE, OTHER],
+        &[0, 0, 1, 2, 1, 3],
+    ),
+    (
+        "an if behind else",
+        NEAREST,
+        &[IF, OTHER, ELSE, IF, OTHER],
+        &[0, 1, 2, 0, 1, 3],
+    ),
+    (
+        "two elses",
+        NEAREST,
+        &[IF, IF, OTHER, ELSE, OTHER, ELSE, OTHER],
+        &[0, 0, 1, 2, 1, 2, 1],
+    ),
+    ("no else", NEAREST, &[IF, IF, OTHER], &[0, 0, 1, 3, 3]),
+    ("a list of three", LIST, &[A, A, A], &[0, 0, 0, 1]),
+    ("an empty list", LIST, &[], &[1]),
+    ("a sum", SUM, &[B, A, B], &[0, 3, 1, 3, 2]),
+    (
+        "a sum in a sum",
+        SUM,
+        &[W, B, A, B, W, A, B],
+        &[0, 4, 0, 3, 1, 3, 2, 1, 3, 2],
+    ),
+    ("the start is a token", &[], &[X], &[]),
+];
+
+/// Token lists with the places where they stop.
+const STOPS: [(&str, &[Line], &[usize], usize); 12] = [
+    ("an else at the start", NEAREST, &[ELSE, IF], 0),
+    ("an else behind if", NEAREST, &[IF, ELSE, OTHER], 1),
+    ("nothing behind else", NEAREST, &[IF, OTHER, ELSE], 3),
+    ("nothing", NEAREST, &[], 0),
+    ("two statements", NEAREST, &[IF, OTHER, OTHER, OTHER], 2),
+    ("a third else", NEAREST, &[IF, OTHER, ELSE, OTHER, ELSE], 4),
+    ("another token in a list", LIST, &[A, A, B, A], 2),
+    ("no operand", SUM, &[B, A], 2),
+    ("an operand too many", SUM, &[W, B, A, B, B], 4),
+    ("an end too many", SUM, &[W, B, W, W], 3),
+    ("the start is a token, twice", &[], &[X, X], 1),
+    ("the start is a token, and there is none", &[], &[], 0),
 ];
 
 fn row_of(alloc: Global, line: &Line) -> Result<Row, AllocError> {
@@ -264,59 +315,14 @@ fn the_first_broken_condition_of_the_first_row_is_named(rt: HostRuntime) -> Resu
 
 #[test]
 fn lists_have_their_tree_or_stop(rt: HostRuntime) -> Result<(), Fail> {
-    let trees: [(&str, &[Line], &[usize], &[usize]); 9] = [
-        (
-            "an else of the inner if",
-            NEAREST,
-            &[IF, IF, OTHER, ELSE, OTHER],
-            &[0, 0, 1, 2, 1, 3],
-        ),
-        (
-            "an if behind else",
-            NEAREST,
-            &[IF, OTHER, ELSE, IF, OTHER],
-            &[0, 1, 2, 0, 1, 3],
-        ),
-        (
-            "two elses",
-            NEAREST,
-            &[IF, IF, OTHER, ELSE, OTHER, ELSE, OTHER],
-            &[0, 0, 1, 2, 1, 2, 1],
-        ),
-        ("no else", NEAREST, &[IF, IF, OTHER], &[0, 0, 1, 3, 3]),
-        ("a list of three", LIST, &[A, A, A], &[0, 0, 0, 1]),
-        ("an empty list", LIST, &[], &[1]),
-        ("a sum", SUM, &[B, A, B], &[0, 3, 1, 3, 2]),
-        (
-            "a sum in a sum",
-            SUM,
-            &[W, B, A, B, W, A, B],
-            &[0, 4, 0, 3, 1, 3, 2, 1, 3, 2],
-        ),
-        ("the start is a token", &[], &[X], &[]),
-    ];
-    for (name, lines, tokens, rows) in trees {
+    for (name, lines, tokens, rows) in TREES {
         let grammar = grammar_of(rt.alloc(), lines)?.ok_or("no grammar")?;
         match parsed(rt.alloc(), &grammar, tokens)? {
             Ok(tree) => assert_eq!(rt; tree.as_slice(), rows, "{name}"),
             Err(_) => return Err(name.into()),
         }
     }
-    let stops: [(&str, &[Line], &[usize], usize); 12] = [
-        ("an else at the start", NEAREST, &[ELSE, IF], 0),
-        ("an else behind if", NEAREST, &[IF, ELSE, OTHER], 1),
-        ("nothing behind else", NEAREST, &[IF, OTHER, ELSE], 3),
-        ("nothing", NEAREST, &[], 0),
-        ("two statements", NEAREST, &[IF, OTHER, OTHER, OTHER], 2),
-        ("a third else", NEAREST, &[IF, OTHER, ELSE, OTHER, ELSE], 4),
-        ("another token in a list", LIST, &[A, A, B, A], 2),
-        ("no operand", SUM, &[B, A], 2),
-        ("an operand too many", SUM, &[W, B, A, B, B], 4),
-        ("an end too many", SUM, &[W, B, W, W], 3),
-        ("the start is a token, twice", &[], &[X, X], 1),
-        ("the start is a token, and there is none", &[], &[], 0),
-    ];
-    for (name, lines, tokens, at) in stops {
+    for (name, lines, tokens, at) in STOPS {
         let grammar = grammar_of(rt.alloc(), lines)?.ok_or("no grammar")?;
         match parsed(rt.alloc(), &grammar, tokens)? {
             Ok(_) => return Err(name.into()),

@@ -1,10 +1,10 @@
 //! Values that stand for themselves.
-ghost use Rattle.std.specs.Prelude.{◌≡◌, List, ◌+◌, ◌-◌, ◌<◌, ◌≤◌, ◌==◌, ◌&&◌, ◌||◌, not, Some, IsOkAnd, slice_get, if◌then◌else◌};
+ghost use Rattle.std.specs.Prelude.{◌≡◌, List, ◌+◌, ◌-◌, ◌<◌, ◌≤◌, ◌&&◌, ◌||◌, not, Some, IsOkAnd, slice_get, if◌then◌else◌};
 ghost use Rattle.bits_core.specs.Number.{slice_value, extend_value};
-ghost use Rattle.bits_core.specs.Operator.{WidthsFit, shape_of, result_width, operator_value};
+ghost use Rattle.bits_core.specs.Operator.{WidthsFit, shape_of, result_width, operator_value, test_value};
 ghost use Rattle.bits_core.specs.declared.number.Bits.{Bits as Number};
 ghost use Rattle.bits_core.specs.declared.operator.OpShape.TheVariants.{One, Test};
-ghost use Rattle.concrete_domain.specs.Offers.{Offers};
+ghost use Rattle.concrete_domain.specs.Meaning.{Offers, meaning_of};
 
 use bits_core::{Bits, Op, apply, extend, slice};
 use p4_program::Resolution;
@@ -43,19 +43,7 @@ impl<'a> Domain for ConcreteDomain<'a> {
 
     type Flag = bool;
 
-    ghost offers = { Offers };
-
-    ghost speaks_of = { λ d p. p.reads ≡ d };
-
-    ghost has = { λ _ _. Unit {0} };
-
-    ghost width_of = { λ _ v. v.width };
-
-    ghost stands = { λ _ v _ x. v.value ≡ x };
-
-    ghost has_flag = { λ _ _. Unit {0} };
-
-    ghost flag_stands = { λ _ f _ t. f ≡ t };
+    ghost meaning = { meaning_of };
 
     fn constant(&mut self, b: Bits) -> Result<Bits, AllocError>
         ensures value { IsOkAnd result (λ v. v ≡ b) }
@@ -76,8 +64,10 @@ impl<'a> Domain for ConcreteDomain<'a> {
 
     fn binary(&mut self, op: Op, a: &Bits, b: &Bits) -> Result<Bits, AllocError>
         requires { WidthsFit (shape_of op) a.now.width b.now.width }
-        ensures width { IsOkAnd result (λ v. v.width ≡ result_width (shape_of op) a.now.width b.now.width) }
-        ensures value { IsOkAnd result (λ v. v.value ≡ operator_value op a.now.width a.now.value b.now.width b.now.value) }
+        ensures width { IsOkAnd result (λ v. v.width
+            ≡ result_width (shape_of op) a.now.width b.now.width) }
+        ensures value { IsOkAnd result (λ v. v.value
+            ≡ operator_value op a.now.width a.now.value b.now.width b.now.value) }
         ensures stays { self.new ≡ self.old }
     {
         Ok(apply(op, *a, *b))
@@ -86,7 +76,8 @@ impl<'a> Domain for ConcreteDomain<'a> {
     fn unary(&mut self, op: Op, a: &Bits) -> Result<Bits, AllocError>
         requires { shape_of op ≡ One }
         ensures width { IsOkAnd result (λ v. v.width ≡ a.now.width) }
-        ensures value { IsOkAnd result (λ v. v.value ≡ operator_value op a.now.width a.now.value 0 0) }
+        ensures value { IsOkAnd result (λ v. v.value
+            ≡ operator_value op a.now.width a.now.value 0 0) }
         ensures stays { self.new ≡ self.old }
     {
         Ok(apply(op, *a, *a))
@@ -106,7 +97,8 @@ impl<'a> Domain for ConcreteDomain<'a> {
         requires some_bit { 1 ≤ width }
         requires at_most_128 { width ≤ 128 }
         ensures width { IsOkAnd result (λ v. v.width ≡ width) }
-        ensures value { IsOkAnd result (λ v. v.value ≡ extend_value signed a.now.width a.now.value width) }
+        ensures value { IsOkAnd result (λ v. v.value
+            ≡ extend_value signed a.now.width a.now.value width) }
         ensures stays { self.new ≡ self.old }
     {
         Ok(extend(*a, width, signed))
@@ -122,7 +114,8 @@ impl<'a> Domain for ConcreteDomain<'a> {
     fn compare(&mut self, op: Op, a: &Bits, b: &Bits) -> Result<bool, AllocError>
         requires shape { shape_of op ≡ Test }
         requires fits { a.now.width ≡ b.now.width }
-        ensures truth { IsOkAnd result (λ f. f ≡ (operator_value op a.now.width a.now.value b.now.width b.now.value == 1)) }
+        ensures truth { IsOkAnd result (λ f. f
+            ≡ test_value op a.now.width a.now.value b.now.value) }
         ensures stays { self.new ≡ self.old }
     {
         Ok(apply(op, *a, *b).value == 1)
@@ -158,5 +151,6 @@ impl<'a> Domain for ConcreteDomain<'a> {
 
     ghost widths_are_those_of_bits = { λ d v known. (v.some_bit, v.at_most_128) };
 
-    ghost numbers_fit = { λ d v p x known spoken stands. subst (λ n. n < 2 ^ v.width) stands v.fits };
+    ghost numbers_fit = { λ d v p x known spoken stands.
+        subst (λ n. n < 2 ^ v.width) stands v.fits };
 }

@@ -3,7 +3,5 @@
 #![tactic(auto)]
 
 mod concrete_domain;
-#[cfg(test)]
-mod tests;
 
 pub use concrete_domain::ConcreteDomain;

@@ -110,6 +110,14 @@ abbrev pub Follows : List Row → List ℕ → Type 0
 Follows g [] = Unit {0}
 Follows g (x ∷ xs) = ((t : ℕ) → BeginsWith g xs t → InFollow g x (Some t)) × Follows g xs
 
+-- nothing follows the start symbol alone
+pub Follows_start : (g : List Row) → Follows g (0 ∷ [])
+Follows_start g = (λ t b. absurd (not_nil b.before b.symbol b.after b.parts), tt)
+  where
+    not_nil : (before : List ℕ) (x : ℕ) (after : List ℕ) → [] ≡ before ++ x ∷ after → ⊥
+    not_nil [] x after e = cc
+    not_nil (z ∷ before) x after e = cc
+
 -- a row in place of its left symbol keeps that
 pub Follows_row : (g : List Row) (k : ℕ) (r : Row) (before ys xs : List ℕ) → IsRow g k r → r.right ≡ before ++ ys → Follows g (r.left ∷ xs) → Follows g (ys ++ xs)
 Follows_row g k r before [] xs h e f = f.1

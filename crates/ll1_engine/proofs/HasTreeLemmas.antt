@@ -158,7 +158,7 @@ module _ (g : List Row) (good : IsGood g) where
       let q = allowed (suc (size d.trees)) d.trees (omega arith) d.valid (subst (AreTokens g) (sym d.bottom) d.terminal)
       (subst (λ (ys : List ℕ). IsClean g (behind ys)) (sym d.top) (λ j s t rest h ranked begins. tt)) in
       let t = subst (λ (ys : List ℕ). Ranked g ys tokens q.0) d.top (subst (λ (ys : List ℕ). Ranked g (roots d.trees) ys q.0) d.bottom q.1) in
-      record { rows = q.0; tree = record { tree = t.trees; valid = t.valid; top = t.top; bottom = t.bottom; terminal = d.terminal; order = t.order; ranks = t.ranks } }
+      record { rows = q.0; tree = record { tree = t.trees; allowed = record { valid = t.valid; top = t.top; bottom = t.bottom; terminal = d.terminal; ranks = t.ranks }; order = t.order } }
 
   pub tree_derives : (tokens : List ℕ) → HasTree g tokens → Derives g (0 ∷ []) tokens
-  tree_derives tokens h = let t = h.tree in record { trees = t.tree; valid = t.valid; top = t.top; bottom = t.bottom; terminal = t.terminal }
+  tree_derives tokens h = let t = h.tree.allowed in record { trees = h.tree.tree; valid = t.valid; top = t.top; bottom = t.bottom; terminal = t.terminal }

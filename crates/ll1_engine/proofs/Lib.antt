@@ -4,11 +4,14 @@ pub mod MayRankLemmas
 pub mod PredictionLemmas
 pub mod StateLemmas
 pub mod HasTreeLemmas
+pub mod ProductiveLemmas
+pub mod OpenLemmas
 pub mod StopsAtLemmas
 pub mod UnderWayLemmas
 pub mod MarksLemmas
 pub mod PredictsBelowLemmas
 pub mod LeastSetLemmas
+pub mod ClosedLemmas
 pub mod RelationsLemmas
 pub mod AnalysisLemmas
 pub mod ConditionsLemmas

@@ -1,5 +1,5 @@
 -- The state of a parse, and how each step keeps it. The stack holds the symbols that are still to be derived.
-use Rattle.std.proofs.Common.{◌≡◌, ◌≢◌, ℕ, ◌+◌, ◌<◌, suc, arith, List, [], ◌∷◌, ◌++◌, Option, None, Some, refl, sym, ap, ◌∙◌, subst, inl, inr, append_assoc}
+use Rattle.std.proofs.Common.{◌≡◌, ℕ, ◌+◌, ◌<◌, suc, arith, List, [], ◌∷◌, ◌++◌, Option, None, Some, refl, sym, ap, ◌∙◌, subst, inl, inr, append_assoc}
 use Rattle.ll1_engine.specs.declared.grammar.Row.{Row}
 use Rattle.ll1_engine.specs.declared.fault.Break.TheVariants.{Rank}
 use Rattle.ll1_engine.specs.Table.{IsRow, IsToken}
@@ -8,7 +8,7 @@ use Rattle.ll1_engine.specs.Conditions.{IsGood}
 use Rattle.ll1_engine.specs.Prediction.{Predicts}
 use Rattle.ll1_engine.specs.Parse.{first_or, TakesRank, RanksAllow}
 use Rattle.ll1_engine.proofs.TreesLemmas.{beside, roots_beside, leaves_beside, preorder_beside, AreTrees_beside, size, size_beside, RanksAllow_beside, RanksAllow_parts, parts, same_row}
-use Rattle.ll1_engine.proofs.FirstLemmas.{Follows, Follows_row}
+use Rattle.ll1_engine.proofs.FirstLemmas.{Follows, Follows_start, Follows_row}
 use Rattle.ll1_engine.proofs.MayRankLemmas.{Lacks, lacks_elsewhere, moved}
 use Rattle.ll1_engine.proofs.PredictionLemmas.{Yields, choice_of, TakesRank_predicted}
 
@@ -63,13 +63,9 @@ State_start g tokens =
       grown = λ more h. h;
       any = λ ts e h. h;
       only = λ all h. (all, h, refl);
-      follows = (λ t b. absurd (not_nil b.before b.symbol b.after b.parts), tt);
+      follows = Follows_start g;
       clean = λ j s t rest h r e. tt;
     }
-  where
-    not_nil : (before : List ℕ) (x : ℕ) (after : List ℕ) → [] ≢ before ++ x ∷ after
-    not_nil [] x after e = cc
-    not_nil (z ∷ before) x after e = cc
 
 -- a node above trees for the right side of its row
 pub Spans_node : (g : List Row) (k : ℕ) (r : Row) (xs ts : List ℕ) → IsRow g k r → Spans g (r.right ++ xs) ts → Spans g (r.left ∷ xs) ts

@@ -1,60 +1,25 @@
 -- What a finished parse has found, and what a stopped one shows. Each symbol derives some list, so the stack that is
 -- left once a token has matched derives one too. Hence the place of a stop is exact.
-use Rattle.std.proofs.Common.{◌≡◌, ℕ, ◌+◌, ◌<◌, ◌≤◌, true, false, List, [], ◌∷◌, ◌++◌, length, take, None, refl, sym, ap, ◌∙◌, subst, inl, inr, append_assoc, arith}
+use Rattle.std.proofs.Common.{◌≡◌, ℕ, ◌+◌, ◌<◌, ◌≤◌, List, [], ◌∷◌, ◌++◌, length, take, None, refl, sym, ap, ◌∙◌, subst, append_assoc, arith}
 use Rattle.std.proofs.lemmas.List.{append-nil, take_at, length-append}
-use Rattle.std.proofs.lemmas.Bool.{cases_Bool, false≢true}
 use Rattle.ll1_engine.specs.declared.grammar.Row.{Row}
-use Rattle.ll1_engine.specs.declared.fault.Break.TheVariants.{Barren}
-use Rattle.ll1_engine.specs.Table.{IsToken}
-use Rattle.ll1_engine.specs.Trees.{Trees, End, Leaf, Node, roots, leaves, preorder, Productive}
+use Rattle.ll1_engine.specs.Trees.{Trees, End, Leaf, Node, roots, preorder, Productive}
 use Rattle.ll1_engine.specs.Conditions.{IsGood}
 use Rattle.ll1_engine.specs.Parse.{first_or, IsTreeOf, CanGoOn, StopsAt}
-use Rattle.ll1_engine.proofs.TreesLemmas.{beside, roots_beside, leaves_beside, AreTrees_beside}
-use Rattle.ll1_engine.proofs.FirstLemmas.{AreTokens, AreTokens_append, AreTokens_parts, is_left, left_is, row_of_left}
+use Rattle.ll1_engine.proofs.FirstLemmas.{AreTokens, AreTokens_append, AreTokens_parts}
+use Rattle.ll1_engine.proofs.ProductiveLemmas.{productive}
 use Rattle.ll1_engine.proofs.StateLemmas.{Spans, Ranked, State}
 use Rattle.ll1_engine.proofs.HasTreeLemmas.{derived_has_tree}
-
-pub Productive_nil : (g : List Row) → Productive g []
-Productive_nil g = record { tokens = []; derives = record { trees = End; valid = tt; top = refl; bottom = refl; terminal = tt } }
-
-pub Productive_append : (g : List Row) (xs ys : List ℕ) → Productive g xs → Productive g ys → Productive g (xs ++ ys)
-Productive_append g xs ys a b =
-    let d = a.derives in let e = b.derives in
-    record {
-      tokens = a.tokens ++ b.tokens;
-      derives = record {
-        trees = beside d.trees e.trees;
-        valid = AreTrees_beside g d.trees e.trees d.valid e.valid;
-        top = roots_beside d.trees e.trees ∙ (ap (λ (zs : List ℕ). zs ++ roots e.trees) d.top ∙ ap (λ (zs : List ℕ). xs ++ zs) e.top);
-        bottom = leaves_beside d.trees e.trees ∙ (ap (λ (zs : List ℕ). zs ++ leaves e.trees) d.bottom ∙ ap (λ (zs : List ℕ). a.tokens ++ zs) e.bottom);
-        terminal = AreTokens_append g a.tokens b.tokens d.terminal e.terminal;
-      };
-    }
-
-token_from_left : (g : List Row) (x : ℕ) → is_left g x ≡ false → IsToken g x
-token_from_left g x e = λ k r h same. absurd (false≢true (sym e ∙ subst (λ (z : ℕ). is_left g z ≡ true) same (left_is g k r h)))
-
--- in an accepted table each symbol derives some list of tokens
-pub productive_symbol : (g : List Row) → IsGood g → (x : ℕ) → Productive g (x ∷ [])
-productive_symbol g good x =
-    elim (cases_Bool (is_left g x)) [
-      | inl left ↦ (let p = row_of_left g x left in subst (λ (z : ℕ). Productive g (z ∷ [])) p.3 (good p.0 p.1 Barren p.2))
-      | inr none ↦ record { tokens = x ∷ []; derives = record { trees = Leaf x End; valid = tt; top = refl; bottom = refl; terminal = (token_from_left g x none, tt) } }
-    ]
-
-pub productive : (g : List Row) → IsGood g → (xs : List ℕ) → Productive g xs
-productive g good [] = Productive_nil g
-productive g good (x ∷ xs) = Productive_append g (x ∷ []) xs (productive_symbol g good x) (productive g good xs)
 
 -- nothing is left on the stack, and no token
 pub tree_found : (g : List Row) (tokens rows : List ℕ) → AreTokens g tokens → State g tokens [] rows [] → IsTreeOf g rows tokens
 tree_found g tokens rows t st =
     let s = st.grown [] (record { trees = End; valid = tt; top = refl; bottom = refl; order = refl; ranks = tt }) in
-    record { tree = s.trees; valid = s.valid; top = s.top; bottom = s.bottom ∙ append-nil tokens; terminal = t; order = s.order ∙ append-nil rows; ranks = s.ranks }
+    record { tree = s.trees; allowed = record { valid = s.valid; top = s.top; bottom = s.bottom ∙ append-nil tokens; terminal = t; ranks = s.ranks }; order = s.order ∙ append-nil rows }
 
 pub tree_only : (g : List Row) (tokens rows other : List ℕ) → State g tokens [] rows [] → IsTreeOf g other tokens → other ≡ rows
 tree_only g tokens rows other st t =
-    let q = st.only other (record { trees = t.tree; valid = t.valid; top = t.top; bottom = t.bottom ∙ sym (append-nil tokens); order = t.order; ranks = t.ranks }) in
+    let q = st.only other (let a = t.allowed in record { trees = t.tree; valid = a.valid; top = a.top; bottom = a.bottom ∙ sym (append-nil tokens); order = t.order; ranks = a.ranks }) in
     q.2 ∙ (ap (λ (zs : List ℕ). rows ++ zs) (no_rows q.0 q.1) ∙ append-nil rows)
   where
     none : (f : Trees) (more : List ℕ) → roots f ≡ [] → preorder f ≡ more → more ≡ []
@@ -71,9 +36,9 @@ past : (g : List Row) (taken tokens : List ℕ) (place : ℕ) (more : List ℕ) 
 past g taken tokens place [] at w none lt c = absurd (let e : length tokens ≡ length taken + 0 = ap length w ∙ length-append taken [] in omega arith)
 past g taken tokens place (t ∷ us) at w none lt c =
     let front : take (place + 1) tokens ≡ taken ++ t ∷ [] = ap (λ (zs : List ℕ). take (place + 1) zs) (w ∙ sym (append_assoc taken (t ∷ []) us)) ∙ take_at (taken ++ t ∷ []) us (place + 1) (let e : length (taken ++ t ∷ []) ≡ length taken + 1 = length-append taken (t ∷ []) in omega arith) in
-    let d = c.whole.tree in
+    let d = c.whole.tree.allowed in
     none (t ∷ c.rest) refl (record {
-      trees = d.tree;
+      trees = c.whole.tree.tree;
       valid = d.valid;
       top = d.top;
       bottom = d.bottom ∙ (ap (λ (zs : List ℕ). zs ++ c.rest) front ∙ append_assoc taken (t ∷ []) c.rest);
@@ -96,7 +61,7 @@ stopped g good tokens taken rest rows stack whole terminal st stuck place at =
         });
       });
       stuck = λ lt c. past g taken tokens place rest at whole (λ ts e sp. stuck ts e (st.any ts e sp)) lt c;
-      treeless = λ h. (let d = h.tree in stuck rest refl (st.any rest refl (record { trees = d.tree; valid = d.valid; top = d.top; bottom = d.bottom ∙ whole })));
+      treeless = λ h. (let d = h.tree.allowed in stuck rest refl (st.any rest refl (record { trees = h.tree.tree; valid = d.valid; top = d.top; bottom = d.bottom ∙ whole })));
     }
   where
     front : take place tokens ≡ taken

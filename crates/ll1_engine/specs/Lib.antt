@@ -1,9 +1,11 @@
 pub mod Table
 pub mod Trees
+pub mod Open
 pub mod First
 pub mod Conditions
 pub mod Parse
 pub mod Prediction
 pub mod Marks
+pub mod Closed
 pub mod Relations
 pub mod Analysis

@@ -24,15 +24,19 @@ RanksAllow g (Node k r below after) next =
     TakesRank g k r (first_or (leaves below ++ leaves after) next)
     × RanksAllow g below (first_or (leaves after) next) × RanksAllow g after next
 
--- one tree from the start symbol has these rows in preorder and these leaves, and the ranks allow it
-pub record IsTreeOf (g : List Row) (rows tokens : List ℕ) : Type 0 where
-  pub tree : Trees
+-- one tree from the start symbol has these leaves, and the ranks allow it
+pub record IsAllowedTree (g : List Row) (tree : Trees) (tokens : List ℕ) : Type 0 where
   pub valid : AreTrees g tree
   pub top : roots tree ≡ 0 ∷ []
   pub bottom : leaves tree ≡ tokens
   pub terminal : AllByRecursion (IsToken g) tokens
-  pub order : preorder tree ≡ rows
   pub ranks : RanksAllow g tree None
+
+-- such a tree has these rows in preorder
+pub record IsTreeOf (g : List Row) (rows tokens : List ℕ) : Type 0 where
+  pub tree : Trees
+  pub allowed : IsAllowedTree g tree tokens
+  pub order : preorder tree ≡ rows
 
 -- the tokens have a tree that the ranks allow
 pub record HasTree (g : List Row) (tokens : List ℕ) : Type 0 where

@@ -85,7 +85,8 @@ fn push_branch(
 
 /// A branch for one port.
 fn push_own_port(text: &mut String, port: u32, value: u32) -> Result<(), AllocError>
-    ensures { OnOk result (string_bytes text.new ≡ string_bytes text.old ++ own_port_branch port value) }
+    ensures { OnOk result
+        (string_bytes text.new ≡ string_bytes text.old ++ own_port_branch port value) }
 {
     write!(text, "    if (s.ingress_port == {port}) m.y = {value};\n")
 }
@@ -100,7 +101,8 @@ fn push_no_port(text: &mut String, value: u32) -> Result<(), AllocError>
 /// A branch for two ports at once.
 fn push_two_ports(text: &mut String, port: u32, value: u32) -> Result<(), AllocError>
     requires { port < ports }
-    ensures { OnOk result (string_bytes text.new ≡ string_bytes text.old ++ two_ports_branch port value) }
+    ensures { OnOk result
+        (string_bytes text.new ≡ string_bytes text.old ++ two_ports_branch port value) }
 {
     let next = port + 1;
     write!(
@@ -111,7 +113,8 @@ fn push_two_ports(text: &mut String, port: u32, value: u32) -> Result<(), AllocE
 
 /// A branch that an unset field decides.
 fn push_unset_field(text: &mut String, field: u32, value: u32) -> Result<(), AllocError>
-    ensures { OnOk result (string_bytes text.new ≡ string_bytes text.old ++ unset_field_branch field value) }
+    ensures { OnOk result
+        (string_bytes text.new ≡ string_bytes text.old ++ unset_field_branch field value) }
 {
     write!(text, "    if (m.u == {field}) m.y = {value};\n")
 }

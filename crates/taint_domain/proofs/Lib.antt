@@ -1,4 +1,12 @@
-pub mod Places
-pub mod Precision
-pub mod Soundness
-pub mod Stands
+pub mod BitwiseLemmas
+pub mod ChoiceLemmas
+pub mod EqualityLemmas
+pub mod MaskLaws
+pub mod MaskLemmas
+pub mod MayBeLemmas
+pub mod MovedLemmas
+pub mod ProductLemmas
+pub mod ResultsLemmas
+pub mod StandsLemmas
+pub mod SumLemmas
+pub mod TestLemmas

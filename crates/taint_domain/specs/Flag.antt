@@ -1,29 +1,14 @@
--- Truth values that a run may change, and Kleene's three-valued logic on them.
-use Rattle.std.specs.Prelude.{◌≡◌, Bool, true, false, not}
+-- What a flag may be, and what it stands for at a point.
+use Rattle.std.specs.Prelude.{◌≡◌, Bool, false}
+use Rattle.bits_core.specs.declared.points.Point.{Point}
 use Rattle.taint_domain.specs.declared.flag.TaintFlag.{TaintFlag}
-use Rattle.taint_domain.specs.declared.flag.TaintFlag.TheVariants.{Known, Unknown}
+use Rattle.taint_domain.specs.Tainted.{ReadsAreZero}
 
--- a known flag has one truth value, an unknown one may have either
-abbrev pub MayBe : TaintFlag → Bool → Type 0
-MayBe (Known s) t = s ≡ t
-MayBe Unknown t = Unit {0}
+-- either truth value, but where the flag is known its own alone
+pub record FlagMayBe (f : TaintFlag) (t : Bool) : Type 0 where
+  pub known : f.may_differ ≡ false → t ≡ f.truth
 
--- false settles a conjunction
-abbrev pub kleene_and : TaintFlag → TaintFlag → TaintFlag
-kleene_and (Known false) g = Known false
-kleene_and (Known true) g = g
-kleene_and Unknown (Known false) = Known false
-kleene_and Unknown (Known true) = Unknown
-kleene_and Unknown Unknown = Unknown
-
--- true settles a disjunction
-abbrev pub kleene_or : TaintFlag → TaintFlag → TaintFlag
-kleene_or (Known true) g = Known true
-kleene_or (Known false) g = g
-kleene_or Unknown (Known true) = Known true
-kleene_or Unknown (Known false) = Unknown
-kleene_or Unknown Unknown = Unknown
-
-abbrev pub kleene_not : TaintFlag → TaintFlag
-kleene_not (Known t) = Known (not t)
-kleene_not Unknown = Unknown
+-- a truth value that the flag may be, and where all reads give 0 its own
+pub record FlagStandsFor (f : TaintFlag) (p : Point) (t : Bool) : Type 0 where
+  pub may : FlagMayBe f t
+  pub zeros : ReadsAreZero p → t ≡ f.truth

@@ -1,4 +1,5 @@
 pub mod Flag
 pub mod Masks
-pub mod Precision
+pub mod Meaning
+pub mod Results
 pub mod Tainted

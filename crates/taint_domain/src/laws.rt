@@ -1,43 +1,41 @@
-//! What a mask promises and what it may not leave out, each law the contract of a function that does nothing. The lemmas of
-//! the same content are in `proofs/`, where a proof takes them from.
-ghost use Rattle.std.specs.Prelude.{◌≡◌, ℕ, Bool};
+//! What values and masks promise, each law the contract of a function that does nothing. The lemmas of the same content are
+//! in `proofs/MaskLaws.antt`, where a proof takes them from.
+ghost use Rattle.std.specs.Prelude.{◌≡◌, ℕ, ◌<◌};
 ghost use Rattle.std.specs.Int.{bit_at};
-ghost use Rattle.bits_core.specs.Number.{slice_value, extend_value};
-ghost use Rattle.bits_core.specs.declared.operator.Op.TheVariants.{And, Or, Xor, Not, Shl, ShrU, ShrS, Cat};
+ghost use Rattle.bits_core.specs.declared.operator.Op.TheVariants.{Add, Sub, Neg};
+ghost use Rattle.bits_core.specs.declared.points.Point.{Point};
+ghost use Rattle.bits_core.specs.Operator.{operator_value};
 ghost use Rattle.taint_domain.specs.declared.tainted.Tainted.{Tainted};
-ghost use Rattle.taint_domain.specs.Masks.{taint_of};
-ghost use Rattle.taint_domain.specs.Precision.{MayDiffer, MayChange};
-ghost use Rattle.taint_domain.specs.Tainted.{StandsFor, IsClear};
+ghost use Rattle.taint_domain.specs.Results.{ResultOf};
+ghost use Rattle.taint_domain.specs.Tainted.{StandsFor, IsClear, ReadsAreZero, IsSettledBelow};
 
-/// A value stands for its own number, and without taint for no other.
+/// A value stands for its own number at each point, where all reads give 0 for no other, and without a mask for no other
+/// anywhere.
 pub fn values_stand_for_their_numbers()
-    ensures own { (v : Tainted) → StandsFor v v.number.value }
-    ensures only { (v : Tainted) (x : ℕ) → IsClear v → StandsFor v x → x ≡ v.number.value }
+    ensures own { (v : Tainted) (p : Point) → StandsFor v p v.number.value }
+    ensures zeros { (v : Tainted) (p : Point) (x : ℕ) → ReadsAreZero p → StandsFor v p x
+        → x ≡ v.number.value }
+    ensures clear { (v : Tainted) (p : Point) (x : ℕ) → IsClear v → StandsFor v p x
+        → x ≡ v.number.value }
 {}
 
 /// Two numbers that one value stands for, as it may in two runs, have the same bit wherever its mask has none.
 pub fn runs_agree_outside_masks()
-    ensures { (v : Tainted) (x y place : ℕ) → StandsFor v x → StandsFor v y → bit_at v.mask.value place ≡ 0
-        → bit_at x place ≡ bit_at y place }
+    ensures { (v : Tainted) (p q : Point) (x y place : ℕ) → StandsFor v p x → StandsFor v q y
+        → bit_at v.mask.value place ≡ 0 → bit_at x place ≡ bit_at y place }
 {}
 
-/// No smaller mask would do where bits are combined place by place or moved, by a shift too where its amount is clear: each
-/// tainted bit of the result differs for some numbers that the operands stand for.
-pub fn masks_are_the_least()
-    ensures conjunction { (a b : Tainted) (place : ℕ) → bit_at (taint_of And a b) place ≡ 1 → MayDiffer And a b place }
-    ensures disjunction { (a b : Tainted) (place : ℕ) → bit_at (taint_of Or a b) place ≡ 1 → MayDiffer Or a b place }
-    ensures exclusive { (a b : Tainted) (place : ℕ) → bit_at (taint_of Xor a b) place ≡ 1 → MayDiffer Xor a b place }
-    ensures complement { (a b : Tainted) (place : ℕ) → bit_at (taint_of Not a b) place ≡ 1 → MayDiffer Not a b place }
-    ensures join { (a b : Tainted) (place : ℕ) → bit_at (taint_of Cat a b) place ≡ 1 → MayDiffer Cat a b place }
-    ensures left { (a b : Tainted) (place : ℕ) → IsClear b → bit_at (taint_of Shl a b) place ≡ 1
-        → MayDiffer Shl a b place }
-    ensures right { (a b : Tainted) (place : ℕ) → IsClear b → bit_at (taint_of ShrU a b) place ≡ 1
-        → MayDiffer ShrU a b place }
-    ensures signed_right { (a b : Tainted) (place : ℕ) → IsClear b → bit_at (taint_of ShrS a b) place ≡ 1
-        → MayDiffer ShrS a b place }
-    ensures slice { (v : Tainted) (high low place : ℕ) → bit_at (slice_value v.mask.value high low) place ≡ 1
-        → MayChange (λ x. slice_value x high low) v place }
-    ensures extension { (signed : Bool) (v : Tainted) (width place : ℕ)
-        → bit_at (extend_value signed v.number.width v.mask.value width) place ≡ 1
-        → MayChange (λ x. extend_value signed v.number.width x width) v place }
+/// Below the lowest masked place of both operands all runs have the bits of one sum, difference or negation.
+pub fn sums_settle_from_below()
+    ensures sum { (a b : Tainted) (n place z : ℕ) → a.number.width ≡ b.number.width
+        → IsSettledBelow a n → IsSettledBelow b n → place < n → ResultOf Add a b z
+        → bit_at z place ≡ bit_at (operator_value Add
+        a.number.width a.number.value b.number.width b.number.value) place }
+    ensures difference { (a b : Tainted) (n place z : ℕ) → a.number.width ≡ b.number.width
+        → IsSettledBelow a n → IsSettledBelow b n → place < n → ResultOf Sub a b z
+        → bit_at z place ≡ bit_at (operator_value Sub
+        a.number.width a.number.value b.number.width b.number.value) place }
+    ensures negation { (a b : Tainted) (n place z : ℕ) → IsSettledBelow a n → place < n
+        → ResultOf Neg a b z
+        → bit_at z place ≡ bit_at (operator_value Neg a.number.width a.number.value 0 0) place }
 {}

@@ -1,5 +1,5 @@
 -- Lemmas on how a call may end.
-use Rattle.std.proofs.Common.{◌≡◌, ◌≢◌, ◌⊎◌, ℕ, ◌*◌, ◌<◌, ◌≤◌, Bool, true, false, IsTrue, List, [], ◌∷◌, ◌++◌, Option, None, Some, IfSome, IsSomeAnd, All, Result, Ok, Err, IsErr, IfOk, length, inl, inr, refl, ap, sym, ◌∙◌, subst, arith, append-nil, take, lit<}
+use Rattle.std.proofs.Common.{◌≡◌, ◌≢◌, ◌⊎◌, ℕ, ◌<◌, Bool, true, false, IsTrue, List, [], ◌∷◌, ◌++◌, Option, None, Some, IfSome, IsSomeAnd, All, Result, Ok, Err, IsErr, IfOk, length, inl, inr, refl, ap, sym, ◌∙◌, subst, arith, append-nil, take, lit<}
 use Rattle.std.proofs.Math.Seq.{take-append_seam}
 use Rattle.std.proofs.lemmas.Result.{MatchResult-from_err}
 use Rattle.std.proofs.lemmas.List.Elements.{recursion_from_All}
@@ -7,7 +7,6 @@ use Rattle.std.specs.List.{AllByRecursion}
 use Rattle.std.specs.Prelude.{codes}
 use Rattle.std.specs.Result.{MatchResult}
 use Rattle.tg_base.specs.declared.desk.DeskFault.{DeskFault}
-use Rattle.tg_base.specs.declared.desk.DeskFault.TheVariants.{Failed}
 use Rattle.tg_base.specs.declared.desk.Out.{Out}
 use Rattle.tg_base.specs.declared.desk.Out.TheVariants as out
 use Rattle.tg_base.specs.declared.place.Refusal.{Refusal}
@@ -22,8 +21,8 @@ use Rattle.testgen_engine.specs.declared.status.TheConstants.{DONE, WRONG_WORDS,
 use Rattle.testgen_engine.specs.declared.status.Status.{Status}
 use Rattle.testgen_engine.specs.declared.status.Status.TheVariants.{Done, WrongWords, Refused, ReadFault}
 use Rattle.testgen_engine.specs.Ended.{Finds, IsCutFinding, Ends, Ended}
-use Rattle.testgen_engine.specs.Endings.{ReadsProgram, ReadsRefused, MeetsFault, Finishes, Misspells, Refuses, FailsToRead, MayTake, IsCutShort, HasSource, CountsNoFault, Completes, RefusesWhole}
-use Rattle.testgen_engine.specs.Findings.{AreRight, IsUndecided, IsPrefix, text_of}
+use Rattle.testgen_engine.specs.Endings.{ReadsProgram, ReadsRefused, MeetsFault, Finishes, Misspells, Refuses, FailsToRead, MayTake, IsCutShort, HasSource, Completes, RefusesWhole}
+use Rattle.testgen_engine.specs.Findings.{AreRight, IsUndecided, text_of}
 use Rattle.testgen_engine.specs.Notes.{usage_note, read_fault_note, refusal_note}
 use Rattle.testgen_engine.specs.Outputs.{Adds, ArePrefixes, AddsPrefixes, Writes, only}
 use Rattle.testgen_engine.specs.Skeleton.{StandsFor, IsRefused}
@@ -225,28 +224,28 @@ source_rest before after name bytes moved ended told files (inr whole) read =
 -- a call that was not cut short finishes a source that stands for a program
 pub completes_from : (before after : Moment) (words : List (List ℕ)) (status : ℕ) → TellsTruly after → after.files ≡ before.files → Ends before after words status → Completes before after words status
 completes_from before after words status told files h = λ name bytes b p asks has stands calm. elim h [
-    | inl finishes ↦ elim finishes.ended [ inl done ↦ inl done | inr undecided ↦ inr (inl undecided) ]
-    | inr (inl misspells) ↦ absurd (misspells.asks name b asks)
-    | inr (inr (inl refuses)) ↦
-        let source = refuses.source in
-        let same = same_name words name source.name b source.bounds asks source.asks in
-        let rest = source_rest before after source.name bytes source.bytes source.ended told files (subst (λ n. HasSource before after n bytes) same has) source.read in
-        absurd (refused_or_built bytes p refuses.refusal stands (subst (λ xs. IsRefused xs refuses.refusal) (sym rest.1) (source.refused rest.0 rest.2)))
-    | inr (inr (inr fails)) ↦ absurd (calm.reads fails.source.rose)
+  | inl finishes ↦ elim finishes.ended [ inl done ↦ inl done | inr undecided ↦ inr (inl undecided) ]
+  | inr (inl misspells) ↦ absurd (misspells.asks name b asks)
+  | inr (inr (inl refuses)) ↦
+      let source = refuses.source in
+      let same = same_name words name source.name b source.bounds asks source.asks in
+      let rest = source_rest before after source.name bytes source.bytes source.ended told files (subst (λ n. HasSource before after n bytes) same has) source.read in
+      absurd (refused_or_built bytes p refuses.refusal stands (subst (λ xs. IsRefused xs refuses.refusal) (sym rest.1) (source.refused rest.0 rest.2)))
+  | inr (inr (inr fails)) ↦ absurd (calm.reads fails.source.rose)
 ]
 
 -- and tells a refusal
 pub refuses_from : (before after : Moment) (words : List (List ℕ)) (status : ℕ) → TellsTruly after → after.files ≡ before.files → Ends before after words status → RefusesWhole before after words status
 refuses_from before after words status told files h = λ name bytes b refusal asks has refused calm. elim h [
-    | inl finishes ↦
-        let source = finishes.source in
-        let same = same_name words name source.name b finishes.findings.bounds asks source.asks in
-        let rest = source_rest before after source.name bytes source.bytes true told files (subst (λ n. HasSource before after n bytes) same has) source.read in
-        let whole : bytes ≡ source.bytes = rest.1 ∙ ap (λ xs. source.bytes ++ xs) (rest.2 refl) ∙ append-nil source.bytes in
-        absurd (refused_or_built bytes finishes.findings.program refusal (subst (λ xs. StandsFor xs finishes.findings.program) (sym whole) source.program) refused)
-    | inr (inl misspells) ↦ absurd (misspells.asks name b asks)
-    | inr (inr (inl refuses)) ↦ inl refuses.ended
-    | inr (inr (inr fails)) ↦ absurd (calm.reads fails.source.rose)
+  | inl finishes ↦
+      let source = finishes.source in
+      let same = same_name words name source.name b finishes.findings.bounds asks source.asks in
+      let rest = source_rest before after source.name bytes source.bytes true told files (subst (λ n. HasSource before after n bytes) same has) source.read in
+      let whole : bytes ≡ source.bytes = rest.1 ∙ ap (λ xs. source.bytes ++ xs) (rest.2 refl) ∙ append-nil source.bytes in
+      absurd (refused_or_built bytes finishes.findings.program refusal (subst (λ xs. StandsFor xs finishes.findings.program) (sym whole) source.program) refused)
+  | inr (inl misspells) ↦ absurd (misspells.asks name b asks)
+  | inr (inr (inl refuses)) ↦ inl refuses.ended
+  | inr (inr (inr fails)) ↦ absurd (calm.reads fails.source.rose)
 ]
 
 -- each status tells how a call ended that was not cut short

@@ -8,7 +8,7 @@ use Rattle.tg_base.specs.Moment.{Moment, output_after}
 use Rattle.tg_base.proofs.MomentLaws.{output_after_twice, output_after_nothing}
 use Rattle.testgen_engine.specs.Findings.{IsPrefix}
 use Rattle.testgen_engine.proofs.Lists.{take-rest}
-use Rattle.testgen_engine.specs.Outputs.{is_same, only, Adds, ArePrefixes, AddsPrefixes, TakesPiece, Writes}
+use Rattle.testgen_engine.specs.Outputs.{is_same, only, Adds, AddsPrefixes, TakesPiece, Writes}
 
 -- what one call and then another add
 pub adds_both : (first second third : Moment) (a b : Out → List ℕ) → Adds first second a → Adds second third b → Adds first third (λ out. a out ++ b out)

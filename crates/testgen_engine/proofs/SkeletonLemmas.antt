@@ -1,5 +1,5 @@
 -- A source has one program or one refusal, and it is short.
-use Rattle.std.proofs.Common.{◌≡◌, ℕ, ◌*◌, ◌<◌, ◌≤◌, List, [], ◌∷◌, ◌++◌, length, map, take, ap, sym, ◌∙◌, subst, arith, length-append, length-take}
+use Rattle.std.proofs.Common.{◌≡◌, ℕ, ◌*◌, ◌<◌, ◌≤◌, List, [], ◌∷◌, ◌++◌, length, map, take, ap, sym, ◌∙◌, subst, arith, length-append}
 use mathlib.Core.HLevel.{is_prop→PathP}
 use Rattle.std.proofs.lemmas.Fmt.{length-decimal-le}
 use Rattle.std.proofs.lemmas.List.{take_all}
@@ -62,12 +62,7 @@ built_short bytes p s =
     let few = s.few in
     omega (arith, ap length s.text, length-append head_text (flat_map line_text s.kinds ++ tail_text), length-append (flat_map line_text s.kinds) tail_text, frame_short)
 
--- so the first bytes of a file tell whether it is one, where they are enough
-pub accepted_whole : (most : ℕ) (source whole : List ℕ) (p : Program) → 3000 < most → source ≡ take most whole → StandsFor source p → StandsFor whole p
-accepted_whole most source whole p many e s =
-    let short : length whole ≤ most = omega (arith, built_short source p s, ap length e, length-take most whole) in
-    subst (λ bytes. StandsFor bytes p) (e ∙ take_all most whole short) s
-
+-- so the first bytes of a file tell whether it is refused, where they are enough
 pub refused_whole : (most : ℕ) (source whole : List ℕ) (refusal : Refusal) → 3000 < most → source ≡ take most whole → IsRefused source refusal → IsRefused whole refusal
 refused_whole most source whole refusal many e refused = record {
   no_program = λ p s.

@@ -1,5 +1,5 @@
 -- Lemmas on reading a source in pieces.
-use Rattle.std.proofs.Common.{◌≡◌, ◌≢◌, ℕ, ◌+◌, ◌≤◌, Bool, true, false, nat_lt, IsTrue, List, [], ◌∷◌, ◌++◌, length, take, drop, inl, inr, refl, ap, sym, ◌∙◌, subst, arith, append-nil, Result, Ok, Err, IsErrAnd, MatchResult, length-take, length-drop, length-append}
+use Rattle.std.proofs.Common.{◌≡◌, ℕ, ◌+◌, ◌≤◌, Bool, true, false, nat_lt, IsTrue, List, [], ◌∷◌, ◌++◌, length, take, drop, inl, inr, refl, ap, sym, ◌∙◌, subst, arith, append-nil, Result, Ok, Err, IsErrAnd, MatchResult, length-drop, length-append}
 use Prim.Native.Nat.{zero, suc}
 use Rattle.std.proofs.Math.Seq.{take-append-add}
 use Rattle.std.proofs.lemmas.Bool.{false≢true, lt-ltb}
@@ -13,7 +13,7 @@ use Rattle.tg_base.specs.Faults.{HasCause}
 use Rattle.tg_base.specs.Moment.{Moment, KeepsReading, is_end, just_opened, after_read}
 use Rattle.tg_base.proofs.MomentLaws.{after_read_last}
 use Rattle.testgen_engine.specs.declared.source.TheConstants.{MOST_BYTES}
-use Rattle.testgen_engine.specs.Source.{HasRead, OpensNothing, FailsReading, AsksNoName, ReadsOnly, ReadsSource, StopsReading}
+use Rattle.testgen_engine.specs.Source.{HasRead, FailsReading, ReadsOnly, ReadsSource, StopsReading}
 
 -- the end of a buffer has as many bytes as fit
 pub room_is : (start room : ℕ) (buffer : List ℕ) → start + room ≡ length buffer → length (take room (drop start buffer)) ≡ room

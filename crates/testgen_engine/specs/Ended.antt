@@ -1,5 +1,5 @@
 -- What the calls below `testgen` do: the cases of its contract, before a status is a number.
-use Rattle.std.specs.Prelude.{◌≡◌, ◌⊎◌, ℕ, List, [], Result, MatchResult}
+use Rattle.std.specs.Prelude.{◌≡◌, ◌⊎◌, ℕ, List, Result, MatchResult}
 use Rattle.tg_base.specs.declared.desk.DeskFault.{DeskFault}
 use Rattle.tg_base.specs.declared.desk.Out.{Out}
 use Rattle.tg_base.specs.Moment.{Moment}

@@ -16,7 +16,7 @@ use crate::print::print;
 use crate::skeleton::program_of;
 use crate::source::read_source;
 use crate::status::Status;
-use crate::words::{job_of, Job};
+use crate::words::{Job, job_of};
 use p4_program::{Bounds, Program};
 use std::alloc::{AllocError, Global};
 use tg_base::{Desk, DeskFault, Out, Refusal};
@@ -122,7 +122,8 @@ fn generate<D: Desk>(alloc: Global, job: Job<'_>, desk: &mut D) -> Result<Status
 pub fn run<D: Desk>(alloc: Global, words: &[String], desk: &mut D) -> Result<Status, DeskFault>
     ensures ends { Ended (D.moment desk.old) (D.moment desk.new)
         (map string_bytes words.now) result }
-    ensures reads { (name : List ℕ) (bounds : Bounds) → AsksGen (map string_bytes words.now) name bounds
+    ensures reads { (name : List ℕ) (bounds : Bounds)
+        → AsksGen (map string_bytes words.now) name bounds
         → ReadsOnly (D.moment desk.old) (D.moment desk.new) name }
     ensures nothing_read { AsksNothing (map string_bytes words.now)
         → KeepsReading (D.moment desk.old) (D.moment desk.new) }

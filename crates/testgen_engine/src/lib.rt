@@ -4,6 +4,7 @@
 //! what it found. Its contract is the headline of the product: the definitions of `specs/` say what
 //! a right report and right tests are. Runs, verdicts and tests are defined in `p4_meaning`.
 //!
+//! - `status`: how a call ends, and the statuses of the process;
 //! - `words`: which job the words ask for;
 //! - `source`: the bytes of the source;
 //! - `skeleton`: the program of a source that is built;
@@ -34,18 +35,16 @@ ghost use Rattle.testgen_engine.specs.Endings.{Finishes, Misspells, Refuses, Fai
 ghost use Rattle.testgen_engine.specs.Source.{ReadsOnly};
 ghost use Rattle.testgen_engine.specs.Words.{AsksGen, AsksNothing};
 
-pub use status::{
-    DONE, OUT_OF_MEMORY, READ_FAULT, REFUSED, UNDECIDED, WRITE_FAULT, WRONG_WORDS,
-};
-
 use generate::run;
+pub use status::{DONE, OUT_OF_MEMORY, READ_FAULT, REFUSED, UNDECIDED, WRITE_FAULT, WRONG_WORDS};
 use std::alloc::Global;
 use tg_base::{Desk, DeskFault};
 
 /// Does the job that the words ask for, and answers the status of the process.
 ///
-/// The words are those of the command line without the program's name. The clauses compare the
-/// desk's moment before the call with that behind it.
+/// The words are those of the command line without the program's name. The clauses speak of what
+/// the desk is before and after the call: which names it was asked for, what was moved out of the
+/// files that it opened, what its outputs have taken, and how many faults it has counted.
 pub fn testgen<D: Desk>(alloc: Global, words: &[String], desk: &mut D) -> u8
     ensures statuses { result ≤ OUT_OF_MEMORY }
 
@@ -65,7 +64,7 @@ pub fn testgen<D: Desk>(alloc: Global, words: &[String], desk: &mut D) -> u8
     ensures refused { result ≡ REFUSED
         → Refuses (D.moment desk.old) (D.moment desk.new) (map string_bytes words.now) result }
 
-    // A fault comes only where the desk has counted it in this call, and ends the call.
+    // A fault is answered only where the desk has counted it in this call, and it ends the call.
     ensures read_fault { result ≡ READ_FAULT
         → FailsToRead (D.moment desk.old) (D.moment desk.new) (map string_bytes words.now) result }
     ensures write_fault { result ≡ WRITE_FAULT

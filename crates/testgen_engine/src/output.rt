@@ -9,15 +9,12 @@ use tg_base::{Desk, DeskFault, Out};
 
 /// Writes a first piece of a text, and answers what is left of the text.
 #[tactic(auto, using(crate::proofs::OutputLemmas::pieces))]
-fn write_piece<'a, D: Desk>(
-    desk: &mut D,
-    out: Out,
-    text: &'a [u8],
-) -> Result<&'a [u8], DeskFault>
+fn write_piece<'a, D: Desk>(desk: &mut D, out: Out, text: &'a [u8]) -> Result<&'a [u8], DeskFault>
     requires { 0 < length text.now }
     ensures piece { MatchResult result
         (λ rest. TakesPiece (D.moment desk.old) (D.moment desk.new) out text.now rest.now)
-        (λ _. (other : Out) → (D.moment desk.new).outputs other ≡ (D.moment desk.old).outputs other) }
+        (λ _. (other : Out)
+        → (D.moment desk.new).outputs other ≡ (D.moment desk.old).outputs other) }
     ensures faults { HasCause (D.moment desk.old).write_faults
         (D.moment desk.new).write_faults result }
     ensures stays { KeepsReading (D.moment desk.old) (D.moment desk.new) }

@@ -1,2 +1,3 @@
-pub mod ExtendsLemmas
+pub mod CellsLaws
+pub mod ExtendsLaws
 pub mod Told

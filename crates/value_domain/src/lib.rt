@@ -7,5 +7,6 @@
 #![tactic(auto)]
 
 mod domain;
+pub mod laws;
 
 pub use domain::Domain;

@@ -1,5 +1,4 @@
-use Rattle.std.proofs.Common.{◌≡◌, ◌⊎◌, inl, map, string_bytes, ap, sym, ◌∙◌, subst}
-use Rattle.testgen_engine.specs.declared.status.TheConstants.{DONE, WRONG_WORDS, REFUSED, UNDECIDED, READ_FAULT}
+use Rattle.std.proofs.Common.{inl, map, string_bytes, ap, sym, ◌∙◌, subst}
 use Rattle.testgen_engine.specs.Ended.{Ends}
 use Rattle.testgen_engine.specs.Status.{status_of}
 use Rattle.testgen_engine.proofs.EndLemmas.{finishes_from, misspells_from, refusal_from, fails_from, wrong_words_from, completes_from, refuses_from}

@@ -1,4 +1,4 @@
-use Rattle.std.proofs.Common.{MatchResult, Err, ap, sym, ◌∙◌, subst}
+use Rattle.std.proofs.Common.{MatchResult, Err, ap, sym, subst}
 use Rattle.testgen_engine.specs.Skeleton.{StandsFor, IsRefused}
 use Rattle.testgen_engine.specs.Source.{ReadsSource, StopsReading}
 use Rattle.testgen_engine.proofs.EndLemmas.{program_ends, refused_ends, fault_ends, met_fault, cut_at_once, ended_at_once}

@@ -1,6 +1,5 @@
-use Rattle.std.proofs.Common.{◌≡◌, ◌+◌, ◌-◌, ◌≤◌, ◌++◌, length, take, true, false, inl, inr, refl, sym, ◌∙◌, subst, arith, add-zero, length-take, rules}
+use Rattle.std.proofs.Common.{◌≡◌, ◌+◌, ◌-◌, ◌≤◌, length, true, false, inl, inr, refl, sym, ◌∙◌, subst, arith, length-take, rules}
 use Rattle.std.proofs.lemmas.Slice.{take-put_mid_below}
-use Rattle.testgen_engine.specs.declared.source.TheConstants.{MOST_BYTES}
 use Rattle.testgen_engine.specs.Source.{HasRead}
 use Rattle.testgen_engine.proofs.SourceLemmas.{room_is, part_written, opened_read, read_nothing, read_more, still_readable, stops, stops_inside}
 use Rattle.testgen_engine.proofs.source.read_into.Goals as goal

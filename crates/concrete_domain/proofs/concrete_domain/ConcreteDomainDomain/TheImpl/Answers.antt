@@ -1,12 +1,13 @@
 -- Each operation gives what the trait says, and the domain stays.
-use Rattle.std.proofs.Common.{◌≡◌, List, Some, sym, ◌∙◌, ◌==◌, ◌&&◌, ◌||◌, not, ap}
+use Rattle.std.proofs.Common.{◌≡◌, List, Some, sym, ◌∙◌, ◌&&◌, ◌||◌, not, ap}
 use Rattle.std.specs.Prelude.{slice_get}
 use Rattle.bits_core.specs.declared.number.Bits.{Bits}
 use Rattle.bits_core.specs.Number.{slice_value, extend_value}
-use Rattle.bits_core.specs.Operator.{operator_value}
-use Rattle.value_domain.proofs.ExtendsLemmas.{Extends-refl}
+use Rattle.bits_core.specs.Operator.{operator_value, test_value}
+use Rattle.value_domain.proofs.ExtendsLaws.{extends_same}
 use Rattle.value_domain.proofs.Told.{from_ok}
-use Rattle.concrete_domain.proofs.Told.{at_one, at_two, some-injective, chosen_width, chosen_value}
+use Rattle.concrete_domain.specs.Meaning.{meaning_of}
+use Rattle.concrete_domain.proofs.ToldLemmas.{at_one, at_two, some_injective, chosen_width, chosen_value}
 use Rattle.concrete_domain.proofs.concrete_domain.ConcreteDomainDomain.TheImpl.Goals as goal
 
 pub binary-tells : goal.binary-tells
@@ -14,7 +15,7 @@ binary-tells g c = record {
   has = from_ok c.result _ _ (λ v h. tt) c.ensures.width;
   width = from_ok c.result _ _ (λ v h. h) c.ensures.width;
   value = from_ok c.result _ _ (λ v h p x y spoken a b. at_two (λ m n. operator_value c.args.op c.args.a.now.width m c.args.b.now.width n) v.value _ _ _ _ h a b) c.ensures.value;
-  extends = Extends-refl _ _ _ _ _ _ _ _ _ c.ensures.stays;
+  extends = extends_same meaning_of _ _ c.ensures.stays;
 }
 
 pub unary-tells : goal.unary-tells
@@ -22,7 +23,7 @@ unary-tells g c = record {
   has = from_ok c.result _ _ (λ v h. tt) c.ensures.width;
   width = from_ok c.result _ _ (λ v h. h) c.ensures.width;
   value = from_ok c.result _ _ (λ v h p x spoken a. at_one (λ n. operator_value c.args.op c.args.a.now.width n 0 0) v.value _ _ h a) c.ensures.value;
-  extends = Extends-refl _ _ _ _ _ _ _ _ _ c.ensures.stays;
+  extends = extends_same meaning_of _ _ c.ensures.stays;
 }
 
 pub constant-tells : goal.constant-tells
@@ -30,7 +31,7 @@ constant-tells g c = record {
   has = from_ok c.result _ _ (λ v h. tt) c.ensures.value;
   width = from_ok c.result _ _ (λ v h. ap (λ (n : Bits). n.width) h) c.ensures.value;
   value = from_ok c.result _ _ (λ v h p spoken. ap (λ (n : Bits). n.value) h) c.ensures.value;
-  extends = Extends-refl _ _ _ _ _ _ _ _ _ c.ensures.stays;
+  extends = extends_same meaning_of _ _ c.ensures.stays;
 }
 
 pub unspecified-tells : goal.unspecified-tells
@@ -40,8 +41,8 @@ unspecified-tells g c = record {
   value = from_ok c.result _ _ (λ v h p b spoken at width.
       let reads : slice_get c.args.self.now c.args.read ≡ Some b = ap (λ (bs : List Bits). slice_get bs c.args.read) (sym spoken) ∙ at in
       let same : Some v ≡ Some b = sym h ∙ reads in
-      ap (λ (n : Bits). n.value) (some-injective v b same)) c.ensures.value;
-  extends = Extends-refl _ _ _ _ _ _ _ _ _ c.ensures.stays;
+      ap (λ (n : Bits). n.value) (some_injective v b same)) c.ensures.value;
+  extends = extends_same meaning_of _ _ c.ensures.stays;
 }
 
 pub slice-tells : goal.slice-tells
@@ -49,7 +50,7 @@ slice-tells g c = record {
   has = from_ok c.result _ _ (λ v h. tt) c.ensures.width;
   width = from_ok c.result _ _ (λ v h. h) c.ensures.width;
   value = from_ok c.result _ _ (λ v h p x spoken a. at_one (λ n. slice_value n c.args.high c.args.low) v.value _ _ h a) c.ensures.value;
-  extends = Extends-refl _ _ _ _ _ _ _ _ _ c.ensures.stays;
+  extends = extends_same meaning_of _ _ c.ensures.stays;
 }
 
 pub extend-tells : goal.extend-tells
@@ -57,7 +58,7 @@ extend-tells g c = record {
   has = from_ok c.result _ _ (λ v h. tt) c.ensures.width;
   width = from_ok c.result _ _ (λ v h. h) c.ensures.width;
   value = from_ok c.result _ _ (λ v h p x spoken a. at_one (λ n. extend_value c.args.signed c.args.a.now.width n c.args.width) v.value _ _ h a) c.ensures.value;
-  extends = Extends-refl _ _ _ _ _ _ _ _ _ c.ensures.stays;
+  extends = extends_same meaning_of _ _ c.ensures.stays;
 }
 
 pub choose-tells : goal.choose-tells
@@ -65,40 +66,40 @@ choose-tells g c = record {
   has = from_ok c.result _ _ (λ v h. tt) c.ensures.value;
   width = from_ok c.result _ _ (λ v h. chosen_width c.args.f.now c.args.a.now c.args.b.now v c.requires.fits h) c.ensures.value;
   value = from_ok c.result _ _ (λ v h p t x y spoken f a b. chosen_value c.args.f.now t c.args.a.now c.args.b.now v x y f a b h) c.ensures.value;
-  extends = Extends-refl _ _ _ _ _ _ _ _ _ c.ensures.stays;
+  extends = extends_same meaning_of _ _ c.ensures.stays;
 }
 
 pub compare-tells : goal.compare-tells
 compare-tells g c = record {
   has = from_ok c.result _ _ (λ f h. tt) c.ensures.truth;
-  truth = from_ok c.result _ _ (λ f h p x y spoken a b. at_two (λ m n. operator_value c.args.op c.args.a.now.width m c.args.b.now.width n == 1) f _ _ _ _ h a b) c.ensures.truth;
-  extends = Extends-refl _ _ _ _ _ _ _ _ _ c.ensures.stays;
+  truth = from_ok c.result _ _ (λ f h p x y spoken a b. at_two (λ m n. test_value c.args.op c.args.a.now.width m n) f _ _ _ _ h a b) c.ensures.truth;
+  extends = extends_same meaning_of _ _ c.ensures.stays;
 }
 
 pub both-tells : goal.both-tells
 both-tells g c = record {
   has = from_ok c.result _ _ (λ f h. tt) c.ensures.truth;
   truth = from_ok c.result _ _ (λ f h p s t spoken a b. at_two (λ m n. m && n) f _ _ _ _ h a b) c.ensures.truth;
-  extends = Extends-refl _ _ _ _ _ _ _ _ _ c.ensures.stays;
+  extends = extends_same meaning_of _ _ c.ensures.stays;
 }
 
 pub either-tells : goal.either-tells
 either-tells g c = record {
   has = from_ok c.result _ _ (λ f h. tt) c.ensures.truth;
   truth = from_ok c.result _ _ (λ f h p s t spoken a b. at_two (λ m n. m || n) f _ _ _ _ h a b) c.ensures.truth;
-  extends = Extends-refl _ _ _ _ _ _ _ _ _ c.ensures.stays;
+  extends = extends_same meaning_of _ _ c.ensures.stays;
 }
 
 pub not-tells : goal.not-tells
 not-tells g c = record {
   has = from_ok c.result _ _ (λ f h. tt) c.ensures.truth;
   truth = from_ok c.result _ _ (λ f h p t spoken a. at_one not f _ _ h a) c.ensures.truth;
-  extends = Extends-refl _ _ _ _ _ _ _ _ _ c.ensures.stays;
+  extends = extends_same meaning_of _ _ c.ensures.stays;
 }
 
 pub fixed-tells : goal.fixed-tells
 fixed-tells g c = record {
   has = from_ok c.result _ _ (λ f h. tt) c.ensures.truth;
   truth = from_ok c.result _ _ (λ f h p spoken. h) c.ensures.truth;
-  extends = Extends-refl _ _ _ _ _ _ _ _ _ c.ensures.stays;
+  extends = extends_same meaning_of _ _ c.ensures.stays;
 }
