@@ -2,6 +2,7 @@
 """Prints what the gate costs: processor seconds of each crate for its proof, its tests and its must-fail edits.
 
 usage: scripts/gate_costs.py [--kept] [NAME..]      (at the top of the repository; NAME as in crates.txt)
+       scripts/gate_costs.py --of PID               (of a run of `rt ci` that is going on)
 
 It runs `rt ci --anew` for these crates and those below them, or for all, from nothing, and looks at the prover's
 processes several times a second. With --kept it runs `rt ci` as it is, so that only what is proved anew is counted.
@@ -47,9 +48,18 @@ def label(pid, words):
     return name, "tests" if "--test" in words else "proof"
 
 
-def measure(command):
-    """Runs the command, and returns the seconds of each (crate, kind) below it."""
-    job = subprocess.Popen(command)
+class Running:
+    """A run that somebody else has started."""
+
+    def __init__(self, pid):
+        self.pid, self.returncode = pid, None
+
+    def poll(self):
+        return None if os.path.isdir(f"/proc/{self.pid}") else "not known"
+
+
+def measure(job):
+    """Returns the seconds of each (crate, kind) below a run until it ends, and its status."""
     labels, seconds = {}, {}
     while job.poll() is None:
         seen = list(processes())
@@ -68,7 +78,7 @@ def measure(command):
     sums = {}
     for pid, spent in seconds.items():
         sums[labels[pid]] = sums.get(labels[pid], 0) + spent
-    return sums, job.returncode
+    return sums, job.poll()
 
 
 def lines_of_code(crate):
@@ -86,9 +96,12 @@ def lines_of_code(crate):
 
 
 def main():
-    names = [word for word in sys.argv[1:] if word != "--kept"]
-    command = ["rt", "ci", *names] + ([] if "--kept" in sys.argv else ["--anew"])
-    sums, status = measure(command)
+    if sys.argv[1:2] == ["--of"]:
+        job = Running(int(sys.argv[2]))
+    else:
+        names = [word for word in sys.argv[1:] if word != "--kept"]
+        job = subprocess.Popen(["rt", "ci", *names] + ([] if "--kept" in sys.argv else ["--anew"]))
+    sums, status = measure(job)
     order = [line.split(":")[0].split()[0] for line in open("crates.txt") if re.match(r"[a-z]", line)]
     print("\n| Crate | Lines of code | Proof | Tests | Edits | Together | A line |\n|---|---|---|---|---|---|---|")
     total = dict.fromkeys(KINDS, 0.0)
@@ -105,7 +118,7 @@ def main():
     whole = sum(total.values())
     print(f"| all | {all_lines} | " + " | ".join(f"{total[kind]:.0f}" for kind in KINDS) + f" | {whole:.0f} | {whole / max(all_lines, 1):.2f} |")
     print(f"\n{whole / 60:.0f} processor minutes; rt ended with {status}.")
-    return status
+    return 0 if status == "not known" else status
 
 
 if __name__ == "__main__":
