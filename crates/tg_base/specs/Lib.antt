@@ -2,6 +2,7 @@ pub mod Calls
 pub mod CalmDesk
 pub mod Code
 pub mod Content
+pub mod Deciding
 pub mod Faults
 pub mod MemDesk
 pub mod OpenFile

@@ -8,6 +8,8 @@
 mod calls;
 mod calm_desk;
 mod desk;
+mod fault;
+mod literal;
 mod mem_desk;
 mod open_file;
 mod outputs;
@@ -18,6 +20,8 @@ mod tests;
 
 pub use calm_desk::CalmDesk;
 pub use desk::{Desk, DeskFault, Out};
+pub use fault::Fault;
+pub use literal::{IntType, IntValue, Literal};
 pub use mem_desk::MemDesk;
 pub use place::{Code, Refusal, Span};
 use sqlite_items::Items;
