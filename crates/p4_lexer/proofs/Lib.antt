@@ -1,0 +1,13 @@
+mod RunLemmas
+mod ByteLemmas
+mod DigitsLemmas
+mod TextLemmas
+mod NumberLemmas
+mod CharacterLemmas
+mod CloseLemmas
+mod SignLemmas
+mod NameLemmas
+mod PieceLemmas
+mod SpelledLemmas
+mod BeginsLemmas
+mod PlaceLemmas
