@@ -1,6 +1,7 @@
 -- What a test expects of the packet that leaves.
 use Rattle.std.specs.Prelude.{◌≡◌, ℕ, ◌/◌, ◌%◌, ◌==◌, Bool, true, ◌&&◌, nat_le, nat_lt, List, [], ◌∷◌, length}
 use Rattle.std.specs.List.{list_all}
+use Rattle.p4_program.specs.declared.input.TheConstants.{MAX_PORT}
 use Rattle.p4_meaning.specs.declared.test.Expected.{Expected}
 use Rattle.p4_meaning.specs.declared.test.Expected.TheVariants.{Drop, Packet}
 use Rattle.p4_meaning.specs.declared.test.Nibble.{Nibble}
@@ -15,7 +16,7 @@ is_digit Undecided = true
 -- the port is one that a packet can leave at, and the nibbles are those of whole bytes
 abbrev pub is_printable : Expected → Bool
 is_printable Drop = true
-is_printable (Packet port nibbles) = nat_le port 510 && (length nibbles % 2 == 0) && list_all is_digit nibbles
+is_printable (Packet port nibbles) = nat_le port MAX_PORT && (length nibbles % 2 == 0) && list_all is_digit nibbles
 
 -- the digits of bytes: the high half of each, then its low half
 abbrev pub digits_of : List ℕ → List ℕ

@@ -1,8 +1,15 @@
 pub mod Chosen
+pub mod Execution
 pub mod Expected
 pub mod Good
 pub mod Outcome
+pub mod Parser
+pub mod Reads
 pub mod Run
+pub mod Statements
+pub mod Store
 pub mod Test
+pub mod V1modelMetadata
+pub mod V1modelRun
 pub mod VerdictText
 pub mod Verdicts

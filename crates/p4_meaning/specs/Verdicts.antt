@@ -4,6 +4,7 @@ use Prim.Native.Nat.{suc}
 use Rattle.p4_program.specs.declared.bounds.Bounds.{Bounds}
 use Rattle.p4_program.specs.declared.input.Input.{Input}
 use Rattle.p4_program.specs.declared.program.Program.{Program}
+use Rattle.p4_program.specs.Blocks.{places_of}
 use Rattle.p4_program.specs.Input.{Bounded}
 use Rattle.p4_program.specs.Numbered.{numbered}
 use Rattle.p4_meaning.specs.declared.outcome.Outcome.{Outcome}
@@ -31,9 +32,9 @@ RightVerdict p b tests statement Unsteady =
     Reachable p b statement × ((x : Input) → Good p b x statement → ⊥)
 RightVerdict p b tests statement Undecided = Unit {0}
 
--- there is one verdict a statement, in order, and each is right
+-- there is one verdict for the statement at each place, in order, and each is right
 pub record RightVerdicts (p : Program) (b : Bounds) (verdicts : List Verdict) (tests : List Test) : Type 0 where
-  pub one_each : length verdicts ≡ length p.statements
+  pub one_each : length verdicts ≡ length (places_of p)
   pub right : (statement : ℕ) (verdict : Verdict) → numbered verdicts statement ≡ Some verdict
       → RightVerdict p b tests statement verdict
 

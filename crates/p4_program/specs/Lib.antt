@@ -1,3 +1,4 @@
+pub mod Blocks
 pub mod Bounds
 pub mod Input
 pub mod Numbered

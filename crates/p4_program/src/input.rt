@@ -6,8 +6,12 @@ use crate::bounds::Bounds;
 use crate::program::Program;
 use sqlite_items::Items;
 
-/// The greatest port of an input; 511 stands for a drop.
+/// The greatest port of an input; the next one stands for a drop.
 pub const MAX_PORT: u16 = 510;
+
+/// How many bytes the packet of the opening input has where the bounds allow them: those of an
+/// Ethernet header.
+pub const OPENING_BYTES: u16 = 14;
 
 /// A list of bytes.
 pub type Bytes = Items<u8>;

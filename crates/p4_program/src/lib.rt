@@ -2,15 +2,17 @@
 //! inputs within these bounds.
 //!
 //! A program is so far the list of the statements of its ingress block. What its runs are stands in
-//! `p4_meaning`.
+//! `p4_meaning`; what belongs to the switch of v1model stands in `v1model`.
 #![tactic(auto)]
 
 mod bounds;
 mod input;
 mod program;
 mod resolution;
+mod v1model;
 
 pub use bounds::{Bounds, MAX_BUDGET, MAX_BYTES, MAX_ENTRIES, MAX_STEPS};
-pub use input::{Bytes, Input, MAX_PORT, bounded};
-pub use program::{EgressSpec, MAX_STATEMENTS, Program, Statement, StatementKind};
+pub use input::{Bytes, Input, MAX_PORT, OPENING_BYTES, bounded};
+pub use program::{MAX_STATEMENTS, Program, Statement, StatementKind};
 pub use resolution::{Resolution, Resolutions};
+pub use v1model::{Block, DROP_PORT, EgressSpec, PORT_END};

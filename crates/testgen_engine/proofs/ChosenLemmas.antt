@@ -4,14 +4,17 @@ use Rattle.std.proofs.Common.{◌≡◌, ℕ, ◌<◌, ◌≤◌, true, false, L
 use Prim.Native.Nat.{zero, suc}
 use Rattle.std.proofs.Math.Dec.{eqb}
 use Rattle.std.proofs.lemmas.Bool.{eqb-true}
-use Rattle.std.proofs.lemmas.List.{length-replicate, get_or-replicate}
+use Rattle.std.proofs.lemmas.List.{length-map, length-replicate, get_or-replicate}
 use Rattle.std.proofs.lemmas.List.Elements.{All-replicate}
 use Rattle.std.specs.List.{Contains, slice_get}
 use Rattle.p4_program.specs.declared.bounds.Bounds.{Bounds}
 use Rattle.p4_program.specs.declared.input.Input.{Input}
 use Rattle.p4_program.specs.declared.program.Program.{Program}
 use Rattle.p4_program.specs.Input.{Bounded, opening_input}
-use Rattle.p4_program.specs.Numbered.{numbered}
+use Rattle.p4_program.specs.declared.input.TheConstants.{OPENING_BYTES}
+use Rattle.p4_program.specs.Numbered.{numbered, numbers_from}
+use Rattle.p4_program.specs.Blocks.{place_of}
+use Rattle.p4_program.specs.declared.v1model.TheConstants.{DROP_PORT}
 use Rattle.p4_meaning.specs.declared.outcome.Outcome.TheVariants as outcome
 use Rattle.p4_meaning.specs.declared.test.Expected.TheVariants as expected
 use Rattle.p4_meaning.specs.declared.test.Nibble.TheVariants.{Fixed}
@@ -25,10 +28,10 @@ use Rattle.p4_meaning.specs.Run.{Run}
 use Rattle.p4_meaning.specs.Test.{Agrees, Holds, Tight, TightFor}
 use Rattle.p4_meaning.specs.Verdicts.{RightVerdict, RightVerdicts, credits_from}
 use Rattle.testgen_engine.specs.Decide.{expected_at, IsOpening}
-use Rattle.testgen_engine.specs.Findings.{Findings, AreRight, IsUndecided}
-use Rattle.testgen_engine.specs.Log.{HasUndecided, Lawful}
+use Rattle.testgen_engine.specs.Findings.{Findings, CreditsAll, TakenInOrder, AreRight, IsUndecided}
+use Rattle.testgen_engine.specs.Log.{HasUndecided, LawfulSoFar, Lawful}
 use Rattle.testgen_engine.proofs.DigitLemmas.{AllowsAll-fixed, fixed_not_masked, fixed_not_undecided}
-use Rattle.testgen_engine.proofs.RunLemmas.{numbers, outcome_at, egress, run_is, good_for_all}
+use Rattle.testgen_engine.proofs.RunLemmas.{outcome_at, egress, run_is, good_for_all}
 
 -- every statement is listed as covered by test 1
 abbrev pub all_covered : ℕ → List Verdict
@@ -48,7 +51,7 @@ numbered_one x y (suc zero) e = (refl, let s : Some x ≡ Some y = e in cc)
 numbered_one x y (suc (suc n)) e = cc
 
 -- the credits of test 1 are all statements, and no other test has any
-pub credits_of_one : (first count : ℕ) → credits_from first (all_covered count) 1 ≡ numbers first count
+pub credits_of_one : (first count : ℕ) → credits_from first (all_covered count) 1 ≡ numbers_from first count
 credits_of_one first zero = refl
 credits_of_one first (suc count) = ap (λ xs. first ∷ xs) (credits_of_one (suc first) count)
 
@@ -80,9 +83,9 @@ opening_bounded p b =
     let low = b.some_bytes in
     record {
       port = omega arith;
-      bytes = All-replicate (λ byte. byte < 256) (min b.bytes 14) 0 (lit< tt);
-      some_byte = omega (arith, length-replicate {A = ℕ} (min b.bytes 14) 0);
-      most_bytes = omega (arith, length-replicate {A = ℕ} (min b.bytes 14) 0);
+      bytes = All-replicate (λ byte. byte < 256) (min b.bytes OPENING_BYTES) 0 (lit< tt);
+      some_byte = omega (arith, length-replicate {A = ℕ} (min b.bytes OPENING_BYTES) 0);
+      most_bytes = omega (arith, length-replicate {A = ℕ} (min b.bytes OPENING_BYTES) 0);
     }
 
 -- what was found of a program: every statement is covered by the tests
@@ -92,7 +95,7 @@ found p b tests = record { bounds = b; program = p; verdicts = all_covered (leng
 -- the run of an input agrees with what is expected of it
 agrees : (value : ℕ) (packet : List ℕ) → Agrees (expected_at value packet) (outcome_at value packet)
 agrees value packet =
-    elim (eqb value 511) as (λ b. Agrees (if b then expected.Drop else expected.Packet value (map Fixed (digits_of packet))) (if b then outcome.Dropped else outcome.Sent value packet)) [
+    elim (eqb value DROP_PORT) as (λ b. Agrees (if b then expected.Drop else expected.Packet value (map Fixed (digits_of packet))) (if b then outcome.Dropped else outcome.Sent value packet)) [
       | true ↦ refl
       | false ↦ (packet, refl, AllowsAll-fixed (digits_of packet))
     ]
@@ -108,7 +111,7 @@ holds p b t o = record {
 
 tight_at : (p : Program) (b : Bounds) (x : Input) (value : ℕ) (packet : List ℕ) → TightFor p b x (expected_at value packet)
 tight_at p b x value packet =
-    elim (eqb value 511) as (λ t. TightFor p b x (if t then expected.Drop else expected.Packet value (map Fixed (digits_of packet)))) [
+    elim (eqb value DROP_PORT) as (λ t. TightFor p b x (if t then expected.Drop else expected.Packet value (map Fixed (digits_of packet)))) [
       | true ↦ tt
       | false ↦ λ place masked. absurd (fixed_not_masked (digits_of packet) place masked)
     ]
@@ -118,7 +121,7 @@ tight p b t o = subst (TightFor p b t.input) (sym o.expects) (tight_at p b t.inp
 
 decided_at : (value : ℕ) (packet : List ℕ) → HasUndecided (expected_at value packet) → ⊥
 decided_at value packet =
-    elim (eqb value 511) as (λ t. HasUndecided (if t then expected.Drop else expected.Packet value (map Fixed (digits_of packet))) → ⊥) [
+    elim (eqb value DROP_PORT) as (λ t. HasUndecided (if t then expected.Drop else expected.Packet value (map Fixed (digits_of packet))) → ⊥) [
       | true ↦ λ h. h
       | false ↦ λ h. fixed_not_undecided (digits_of packet) h.0 h.1 h.2
     ]
@@ -138,7 +141,7 @@ test_good p b t o statement low high = subst (λ x. Good p b x statement) (sym o
 
 right_verdicts : (p : Program) (b : Bounds) (t : Test) → IsOpening p b t → RightVerdicts p b (all_covered (length p.statements)) (t ∷ [])
 right_verdicts p b t o = record {
-  one_each = length-replicate (length p.statements) (verdict.Covered 1);
+  one_each = length-replicate (length p.statements) (verdict.Covered 1) ∙ sym (length-map p.statements place_of);
   right = λ statement v e.
       let named = numbered-replicate (length p.statements) statement (verdict.Covered 1) v e in
       subst (RightVerdict p b (t ∷ []) statement) (sym named.2) (t, refl, test_good p b t o statement named.0 named.1);
@@ -166,26 +169,48 @@ chosen p b t o some =
           };
     }
 
-lawful : (p : Program) (b : Bounds) (t : Test) → IsOpening p b t → Lawful b (all_covered (length p.statements)) (t ∷ []) []
+log_so_far : (p : Program) (b : Bounds) (t : Test) → IsOpening p b t → LawfulSoFar p b (t ∷ []) []
+log_so_far p b t o = record {
+  records = λ place entry e. cc;
+  within = λ statement. omega arith;
+  nibbles = λ number test e undecided.
+      let named = (numbered_one t test number e).1 in
+      absurd (decided p b t o (subst (λ u. HasUndecided u.expected) (sym named) undecided));
+}
+
+lawful : (p : Program) (b : Bounds) (t : Test) → IsOpening p b t → Lawful p b (all_covered (length p.statements)) (t ∷ []) []
 lawful p b t o =
     let budget = b.some_budget in
     record {
+      so_far = log_so_far p b t o;
       statements = λ statement v e.
           let named = numbered-replicate (length p.statements) statement (verdict.Covered 1) v e in
           (λ undecided. let same : verdict.Covered 1 ≡ verdict.Undecided = sym named.2 ∙ undecided in cc, λ spent. absurd (omega arith));
-      within = λ statement. omega arith;
-      nibbles = λ number test e undecided.
-          let named = (numbered_one t test number e).1 in
-          absurd (decided p b t o (subst (λ u. HasUndecided u.expected) (sym named) undecided));
     }
+
+credits_all : (p : Program) (b : Bounds) (t : Test) → CreditsAll (found p b (t ∷ []))
+credits_all p b t number test least statement v e f low good g =
+    let named = numbered-replicate (length p.statements) statement (verdict.Covered 1) v g in
+    let one = (numbered_one t test number e).0 in
+    inr (1, named.2, omega arith)
+
+in_order : (p : Program) (b : Bounds) (t : Test) → TakenInOrder (found p b (t ∷ []))
+in_order p b t number least statement credit before e =
+    let same = (numbered-replicate (length p.statements) statement (verdict.Covered 1) verdict.Undecided e).2 in
+    cc
 
 -- what is found of a program with statements is right
 pub found_right : (p : Program) (b : Bounds) (t : Test) → IsOpening p b t → 1 ≤ length p.statements → AreRight (found p b (t ∷ []))
 found_right p b t o some = record {
-  verdicts = right_verdicts p b t o;
-  chosen = chosen p b t o some;
-  hold = λ number u e. subst (Holds p b) (numbered_one t u number e).1 (holds p b t o);
-  tight = λ number u e. subst (Tight p b) (numbered_one t u number e).1 (tight p b t o);
+  so_far = record {
+    verdicts = right_verdicts p b t o;
+    chosen = chosen p b t o some;
+    in_order = in_order p b t;
+    credited = credits_all p b t;
+    hold = λ number u e. subst (Holds p b) (numbered_one t u number e).1 (holds p b t o);
+    tight = λ number u e. subst (Tight p b) (numbered_one t u number e).1 (tight p b t o);
+    log = log_so_far p b t o;
+  };
   lawful = lawful p b t o;
 }
 

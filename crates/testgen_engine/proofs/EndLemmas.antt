@@ -1,216 +1,285 @@
 -- Lemmas on how a call may end.
-use Rattle.std.proofs.Common.{◌≡◌, ℕ, ◌*◌, ◌<◌, ◌≤◌, List, [], ◌∷◌, ◌++◌, Option, None, Some, Result, Ok, Err, IfOk, length, take, inl, inr, refl, ap, sym, ◌∙◌, subst, arith, length-append, length-take}
-use Rattle.std.proofs.lemmas.Fmt.{length-decimal-le}
-use Rattle.std.proofs.lemmas.List.{take_all}
-use Rattle.std.specs.Fmt.{decimal}
-use Rattle.std.specs.List.{flat_map, AllByRecursion}
+use Rattle.std.proofs.Common.{◌≡◌, ◌≢◌, ◌⊎◌, ℕ, ◌<◌, Bool, true, false, IsTrue, List, [], ◌∷◌, ◌++◌, Option, None, Some, IfSome, IsSomeAnd, All, Result, Ok, Err, IsErr, IfOk, length, inl, inr, refl, ap, sym, ◌∙◌, subst, arith, append-nil, take, lit<}
+use Rattle.std.proofs.Math.Seq.{take-append_seam}
+use Rattle.std.proofs.lemmas.Result.{MatchResult-from_err}
+use Rattle.std.proofs.lemmas.List.Elements.{recursion_from_All}
+use Rattle.std.specs.List.{AllByRecursion}
 use Rattle.std.specs.Prelude.{codes}
 use Rattle.std.specs.Result.{MatchResult}
 use Rattle.tg_base.specs.declared.desk.DeskFault.{DeskFault}
 use Rattle.tg_base.specs.declared.desk.Out.{Out}
 use Rattle.tg_base.specs.declared.desk.Out.TheVariants as out
-use Rattle.tg_base.specs.Content.{with_piece}
+use Rattle.tg_base.specs.declared.place.Refusal.{Refusal}
 use Rattle.tg_base.specs.Faults.{Rose}
-use Rattle.p4_program.specs.Bounds.{IsDefault}
+use Rattle.tg_base.specs.Moment.{Moment, Opened, IsOfFile, TellsTruly, KeepsReading, KeepsWriting, output_after}
 use Rattle.p4_program.specs.declared.bounds.Bounds.{Bounds}
+use Rattle.p4_program.specs.declared.program.Program.{Program}
 use Rattle.testgen_engine.specs.Decide.{findings}
 use Rattle.testgen_engine.specs.declared.decide.Decided.{Decided}
-use Rattle.p4_program.specs.declared.program.Program.{Program}
-use Rattle.p4_program.specs.declared.program.StatementKind.{StatementKind}
-use Rattle.p4_program.specs.declared.program.StatementKind.TheVariants.{AssignEgressSpec, MarkToDrop}
-use Rattle.testgen_engine.specs.Endings.{HasFile, IsFound, Finishes, Ends, EndsSomehow, IsCutShort, Completes, RefusesWhole, not_built}
+use Rattle.testgen_engine.specs.declared.source.TheConstants.{MOST_BYTES}
+use Rattle.testgen_engine.specs.declared.status.TheConstants.{DONE, WRONG_WORDS, REFUSED, UNDECIDED, READ_FAULT}
+use Rattle.testgen_engine.specs.declared.status.Status.{Status}
+use Rattle.testgen_engine.specs.declared.status.Status.TheVariants.{Done, WrongWords, Refused, ReadFault}
+use Rattle.testgen_engine.specs.Ended.{Finds, IsCutFinding, Ends, Ended}
+use Rattle.testgen_engine.specs.Endings.{ReadsProgram, ReadsRefused, MeetsFault, Finishes, Misspells, Refuses, FailsToRead, MayTake, IsCutShort, HasSource, Completes, RefusesWhole}
 use Rattle.testgen_engine.specs.Findings.{AreRight, IsUndecided, text_of}
 use Rattle.testgen_engine.specs.Notes.{usage_note, read_fault_note, refusal_note}
-use Rattle.testgen_engine.specs.Outputs.{Adds, AddsFronts, AddsText, AddsTextFront, Writes, WritesText, only}
-use Rattle.testgen_engine.specs.Skeleton.{head_text, tail_text, assign_text, drop_text, end_text, line_text, FitsNineBits, StandsFor, IsNotBuilt}
-use Rattle.testgen_engine.specs.Status.{status_of, Ended}
-use Rattle.testgen_engine.specs.declared.generate.Status.{Status}
-use Rattle.testgen_engine.specs.declared.generate.Status.TheVariants.{Done}
+use Rattle.testgen_engine.specs.Outputs.{Adds, ArePrefixes, AddsPrefixes, Writes, only}
+use Rattle.testgen_engine.specs.Skeleton.{StandsFor, IsRefused}
+use Rattle.testgen_engine.specs.Source.{HasRead, FailsReading, ReadsOnly, ReadsSource}
+use Rattle.testgen_engine.specs.Status.{status_of}
 use Rattle.testgen_engine.specs.Words.{AsksGen, AsksNothing}
+use Rattle.testgen_engine.proofs.FindingsLemmas.{right_prefix, nothing_taken}
+use Rattle.testgen_engine.proofs.Lists.{append_left_injective}
+use Rattle.testgen_engine.proofs.OutputLemmas.{adds_nothing}
+use Rattle.testgen_engine.proofs.SkeletonLemmas.{built_short, refused_or_built, refused_whole}
+use Rattle.testgen_engine.proofs.SourceLemmas.{read_stays}
 
--- texts that are such are also such
-pub adds_map : (old new : Out → Option (List ℕ)) (P Q : (Out → List ℕ) → Type 0) → ((text : Out → List ℕ) → P text → Q text) → AddsText old new P → AddsText old new Q
-adds_map old new P Q f h = record { text = h.text; adds = h.adds; right = f h.text h.right }
+-- the source of a program is shorter than what is taken of one
+stands_short : (bytes : List ℕ) (p : Program) → StandsFor bytes p → length bytes < MOST_BYTES
+stands_short bytes p stands = omega (arith, built_short bytes p stands)
 
-pub fronts_map : (old new : Out → Option (List ℕ)) (P Q : (Out → List ℕ) → Type 0) → ((text : Out → List ℕ) → P text → Q text) → AddsTextFront old new P → AddsTextFront old new Q
-fronts_map old new P Q f h = record { text = h.text; adds = h.adds; right = f h.text h.right }
+-- so one that was not read to its end is refused however it goes on
+refused_longer : (bytes rest : List ℕ) (refusal : Refusal) → length bytes ≡ MOST_BYTES → IsRefused bytes refusal → IsRefused (bytes ++ rest) refusal
+refused_longer bytes rest refusal long refused =
+    refused_whole MOST_BYTES bytes (bytes ++ rest) refusal (lit< tt) (sym (ap (λ n. take n (bytes ++ rest)) (sym long) ∙ take-append_seam bytes rest)) refused
 
--- the lines of a statement have at most 30 characters
-line_short : (kind : StatementKind) → FitsNineBits kind → length (line_text kind) ≤ 30
-unfolding assign_text drop_text end_text
-line_short (AssignEgressSpec value) fits =
-    let number = length-decimal-le 3 value (omega arith) (omega arith) (omega arith) in
-    let small : length (assign_text ++ (decimal value ++ end_text)) ≤ 30 = omega (arith, length-append assign_text (decimal value ++ end_text), length-append (decimal value) end_text) in
-    small
-line_short MarkToDrop fits = omega arith
+-- a text that was added behind reads that left the outputs as they were
+adds_from : (first second third : Moment) (text : Out → List ℕ) → KeepsWriting first second → Adds second third text → Adds first third text
+adds_from first second third text stays h = record { each = λ o. h.each o ∙ ap (λ taken. output_after taken (text o)) (stays.outputs o) }
 
-lines_short : (kinds : List StatementKind) → AllByRecursion FitsNineBits kinds → length (flat_map line_text kinds) ≤ 30 * length kinds
-lines_short [] fits = omega arith
-lines_short (kind ∷ kinds) fits = omega (arith, length-append (line_text kind) (flat_map line_text kinds), line_short kind fits.0, lines_short kinds fits.1)
-
-frame_short : (length head_text ≤ 1000) × (length tail_text ≤ 1000)
-unfolding head_text tail_text
-frame_short = (omega arith, omega arith)
-
--- a source that is built is short
-built_short : (bytes : List ℕ) (p : Program) → StandsFor bytes p → length bytes ≤ 3000
-built_short bytes p s =
-    let lines = lines_short s.kinds s.fit in
-    let few = s.few in
-    omega (arith, ap length s.text, length-append head_text (flat_map line_text s.kinds ++ tail_text), length-append (flat_map line_text s.kinds) tail_text, frame_short)
-
--- a source that was built is shorter than what may be taken
-pub short_done : {S E : Type 0} (r : Result S E) (P : S → Type 0) (source : List ℕ) (p : Program) → StandsFor source p → IfOk r (λ s. P s → length source < 262145)
-short_done (Ok s) P source p stands = λ done. omega (arith, built_short source p stands)
-short_done (Err e) P source p stands = tt
-
--- so what is taken of a file tells whether it is one
-pub refused_whole : (source whole : List ℕ) → source ≡ take 262145 whole → IsNotBuilt source → IsNotBuilt whole
-refused_whole source whole e none p s =
-    let short = built_short whole p s in
-    none p (subst (λ bytes. StandsFor bytes p) (sym (e ∙ take_all 262145 whole (omega arith))) s)
-
-pub accepted_whole : (source whole : List ℕ) (p : Program) → source ≡ take 262145 whole → StandsFor source p → StandsFor whole p
-accepted_whole source whole p e s =
-    let short : length whole ≤ 262145 = omega (arith, built_short source p s, ap length e, length-take 262145 whole) in
-    subst (λ bytes. StandsFor bytes p) (e ∙ take_all 262145 whole short) s
-
--- what was found of the file's program is a finish
-pub found_finishes : (files : Option (List ℕ → Option (List ℕ))) (words : List (List ℕ)) (name whole : List ℕ) (p : Program) → AsksGen words name → HasFile files name whole → StandsFor whole p
-    → (text : Out → List ℕ) → IsFound p text → Finishes files words 0 text
-found_finishes files words name whole p asks has stands text f = record {
-  ended = inl refl;
+-- the source of a program that was read
+read_program : (first second third : Moment) (words : List (List ℕ)) (name bytes : List ℕ) (b : Bounds) (p : Program) → AsksGen words name b → ReadsSource first second name bytes
+    → KeepsReading second third → StandsFor bytes p → ReadsProgram first third words b p
+read_program first second third words name bytes b p asks source stays stands = record {
   name = name;
   asks = asks;
-  bytes = whole;
-  source = has;
+  bytes = bytes;
+  read = elim source.whole [
+    | inl met ↦ subst (HasRead first third name bytes) met (read_stays first second third name bytes source.ended source.read stays)
+    | inr long ↦ absurd (omega (arith, stands_short bytes p stands, long))
+  ];
+  program = stands;
+}
+
+-- a source that was read and is refused
+read_refused : (first second third : Moment) (words : List (List ℕ)) (name bytes : List ℕ) (b : Bounds) (refusal : Refusal) → AsksGen words name b → ReadsSource first second name bytes
+    → KeepsReading second third → IsRefused bytes refusal → ReadsRefused first third words refusal
+read_refused first second third words name bytes b refusal asks source stays refused = record {
+  name = name;
+  bounds = b;
+  asks = asks;
+  bytes = bytes;
+  ended = source.ended;
+  read = read_stays first second third name bytes source.ended source.read stays;
+  refused = λ rest none. elim source.whole [
+    | inl met ↦ subst (λ xs. IsRefused xs refusal) (sym (ap (λ xs. bytes ++ xs) (none met) ∙ append-nil bytes)) refused
+    | inr long ↦ refused_longer bytes rest refusal long refused
+  ];
+}
+
+-- a source whose opening or reading failed
+pub met_fault : (first second third : Moment) (words : List (List ℕ)) (name : List ℕ) (b : Bounds) → AsksGen words name b → FailsReading first second name
+    → Rose first.read_faults second.read_faults → KeepsReading second third → MeetsFault first third words
+met_fault first second third words name b asks fails rose stays = record {
+  name = name;
+  bounds = b;
+  asks = asks;
+  read = elim fails [
+    | inl nothing ↦ inl (record { asked = stays.asked ∙ nothing.asked; opened = stays.opened ∙ nothing.opened })
+    | inr read ↦ inr (read.0, read_stays first second third name read.0 false read.1 stays)
+  ];
+  rose = subst (Rose first.read_faults) (sym stays.read_faults) rose;
+}
+
+-- a call that is cut short before it writes
+pub cut_at_once : (first second : Moment) (words : List (List ℕ)) → KeepsWriting first second → IsCutShort first second words
+cut_at_once first second words stays = record {
+  taken = λ o. [];
+  adds = adds_nothing first second stays.outputs;
+  allowed = MayTake.nothing (λ o. refl);
+}
+
+pub ended_at_once : (first second : Moment) (words : List (List ℕ)) (r : Result Status DeskFault) → KeepsWriting first second → IsErr r → Ended first second words r
+ended_at_once first second words r stays failed = MatchResult-from_err r _ _ failed (λ e. cut_at_once first second words stays)
+
+-- a call that writes a note, and how it ends where it does not
+note_ends : (first second third : Moment) (words : List (List ℕ)) (note : List ℕ) (status : Status) → KeepsWriting first second
+    → (Adds first third (only out.Notes note) → Ends first third words (status_of status))
+    → ((taken : Out → List ℕ) → ArePrefixes taken (only out.Notes note) → MayTake first third words taken)
+    → (r : Result Status DeskFault) → IfOk r (λ s. s ≡ status) → Writes second third (only out.Notes note) r → Ended first third words r
+note_ends first second third words note status stays ends cut (Ok s) told writes =
+    subst (λ t. Ends first third words (status_of t)) (sym told) (ends (adds_from first second third (only out.Notes note) stays writes))
+note_ends first second third words note status stays ends cut (Err e) told writes = record {
+  taken = writes.taken;
+  adds = adds_from first second third writes.taken stays writes.adds;
+  allowed = cut writes.taken writes.prefixes;
+}
+
+-- the notes of a refusal, of wrong words and of a read fault
+pub refused_ends : (first second third : Moment) (words : List (List ℕ)) (name bytes : List ℕ) (b : Bounds) (refusal : Refusal) → AsksGen words name b → ReadsSource first second name bytes
+    → KeepsWriting first second → KeepsReading second third → IsRefused bytes refusal
+    → (r : Result Status DeskFault) → IfOk r (λ s. s ≡ Refused) → Writes second third (only out.Notes (refusal_note refusal)) r → Ended first third words r
+refused_ends first second third words name bytes b refusal asks source outputs_stay stays refused =
+    let read = read_refused first second third words name bytes b refusal asks source stays refused in
+    note_ends first second third words (refusal_note refusal) Refused outputs_stay
+    (λ adds. inr (inr (inl (record { ended = refl; refusal = refusal; source = read; texts = adds }))))
+    (λ taken prefixes. MayTake.note refusal read prefixes)
+
+pub fault_ends : (first second third : Moment) (words : List (List ℕ)) → KeepsWriting first second → MeetsFault first third words
+    → (r : Result Status DeskFault) → IfOk r (λ s. s ≡ ReadFault) → Writes second third (only out.Notes read_fault_note) r → Ended first third words r
+fault_ends first second third words outputs_stay fault =
+    note_ends first second third words read_fault_note ReadFault outputs_stay
+    (λ adds. inr (inr (inr (record { ended = refl; source = fault; texts = adds }))))
+    (λ taken prefixes. MayTake.fault fault prefixes)
+
+nothing_moves : (m : Moment) → KeepsWriting m m
+nothing_moves m = record { files = refl; outputs = λ o. refl; write_faults = refl }
+
+pub usage_ends : (first second : Moment) (words : List (List ℕ)) → AsksNothing words → KeepsReading first second
+    → (r : Result Status DeskFault) → IfOk r (λ s. s ≡ WrongWords) → Writes first second (only out.Notes usage_note) r → Ended first second words r
+usage_ends first second words asks stays =
+    note_ends first first second words usage_note WrongWords (nothing_moves first)
+    (λ adds. inr (inl (record { ended = refl; asks = asks; stays = stays; texts = adds })))
+    (λ taken prefixes. MayTake.usage asks prefixes)
+
+-- what was decided and written of a program
+pub found : (before after : Moment) (b : Bounds) (p : Program) (d : Decided) → AreRight (findings b p d) → (IsUndecided (findings b p d) → ⊥) → Adds before after (text_of (findings b p d)) → Finds before after b p
+found before after b p d right decided adds = record { findings = findings b p d; bounds = refl; program = refl; right = right; decided = decided; texts = adds }
+
+pub cut_finding : (before after : Moment) (b : Bounds) (p : Program) (d : Decided) → AreRight (findings b p d) → AddsPrefixes before after (text_of (findings b p d)) → IsCutFinding before after b p
+cut_finding before after b p d right h = record { taken = h.taken; adds = h.adds; right = right_prefix (findings b p d) h.taken right h.prefixes }
+
+pub nothing_found_yet : (m : Moment) (b : Bounds) (p : Program) → IsCutFinding m m b p
+nothing_found_yet m b p = record { taken = λ o. []; adds = adds_nothing m m (λ o. refl); right = nothing_taken p b }
+
+-- the job of a program
+finishes : (first second third : Moment) (words : List (List ℕ)) (b : Bounds) (p : Program) → KeepsWriting first second → ReadsProgram first third words b p → Finds second third b p
+    → Finishes first third words (status_of Done)
+finishes first second third words b p outputs_stay source f = record {
+  ended = inl refl;
   findings = f.findings;
-  bounds = f.bounds;
-  program = subst (StandsFor whole) (sym f.program) stands;
+  source = subst (λ c. ReadsProgram first third words c f.findings.program) (sym f.bounds) (subst (ReadsProgram first third words b) (sym f.program) source);
   right = f.right;
   undecided = (λ e. absurd (omega arith), λ u. absurd (f.decided u));
-  texts = f.texts;
+  texts = adds_from first second third (text_of f.findings) outputs_stay f.texts;
 }
 
--- an outcome with one status, by what holds of it
-match_told : {S E : Type 0} {A B Q : Type 0} (P : S → Type 0) (r : Result S E) (status : S) → IfOk r (λ s. s ≡ status) → MatchResult r (λ _. A) (λ _. B) → (A → P status) → (B → Q) → MatchResult r P (λ _. Q)
-match_told P (Ok s) status told a f g = subst P (sym told) (f a)
-match_told P (Err e) status told b f g = g b
-
--- a source that is a program's: what finishing leaves
-pub answer_found : (old new : Out → Option (List ℕ)) (files : Option (List ℕ → Option (List ℕ))) (words : List (List ℕ)) (name whole source : List ℕ) (before now : ℕ) (p : Program)
-    → AsksGen words name → HasFile files name whole → source ≡ take 262145 whole → StandsFor source p
-    → (r : Result Status DeskFault) → IfOk r (λ s. s ≡ Done) → WritesText old new (IsFound p) r
-    → Ended files words before now old new r
-answer_found old new files words name whole source before now p asks has e stands r told writes =
-    let finishes = found_finishes files words name whole p asks has (accepted_whole source whole p e stands) in
-    match_told (λ status. AddsText old new (Ends files words before now (status_of status))) r Done told writes
-    (adds_map old new (IsFound p) (Ends files words before now 0) (λ text f. inl (finishes text f)))
-    (elim [
-      | inl nothing ↦ inl nothing
-      | inr front ↦ inr (fronts_map old new (IsFound p) (EndsSomehow files words before now) (λ text f. (0, inl (finishes text f))) front)
-    ])
-
--- one note, and nothing else
-note_end : (old new : Out → Option (List ℕ)) (note : List ℕ) (P : (Out → List ℕ) → Type 0) → P (only out.Notes note) → Adds old new (only out.Notes note) → AddsText old new P
-note_end old new note P p h = record { text = only out.Notes note; adds = h; right = p }
-
-note_front : (old new : Out → Option (List ℕ)) (note : List ℕ) (P : (Out → List ℕ) → Type 0) → P (only out.Notes note) → AddsFronts old new (only out.Notes note) → AddsTextFront old new P
-note_front old new note P p h = record { text = only out.Notes note; adds = h; right = p }
-
--- a note that ends a call with one status
-pub told_note : (old new : Out → Option (List ℕ)) (files : Option (List ℕ → Option (List ℕ))) (words : List (List ℕ)) (before now : ℕ) (note : List ℕ) (status : Status)
-    → Ends files words before now (status_of status) (only out.Notes note)
-    → (r : Result Status DeskFault) → IfOk r (λ s. s ≡ status) → Writes old new (only out.Notes note) r
-    → Ended files words before now old new r
-told_note old new files words before now note status end r told writes =
-    match_told (λ s. AddsText old new (Ends files words before now (status_of s))) r status told writes
-    (note_end old new note (Ends files words before now (status_of status)) end)
-    (λ h. inr (note_front old new note (EndsSomehow files words before now) (status_of status, end) h))
-
--- the notes of a refusal, of wrong words and of a read fault are ends
-pub refused_end : (files : Option (List ℕ → Option (List ℕ))) (words : List (List ℕ)) (name whole source : List ℕ) (before now : ℕ) → AsksGen words name → HasFile files name whole → source ≡ take 262145 whole → IsNotBuilt source
-    → Ends files words before now 2 (only out.Notes (refusal_note not_built))
-refused_end files words name whole source before now asks has e none = inr (inr (inl (record {
-  ended = refl;
-  name = name;
-  asks = asks;
-  bytes = whole;
-  source = has;
-  refused = refused_whole source whole e none;
-  texts = λ o. refl;
-})))
-
-pub usage_end : (files : Option (List ℕ → Option (List ℕ))) (words : List (List ℕ)) (before now : ℕ) → AsksNothing words → Ends files words before now 1 (only out.Notes usage_note)
-usage_end files words before now none = inr (inl (record { ended = refl; asks = none; texts = λ o. refl }))
-
-pub fault_end : (files : Option (List ℕ → Option (List ℕ))) (words : List (List ℕ)) (name : List ℕ) (before now : ℕ) → AsksGen words name → Rose before now → Ends files words before now 4 (only out.Notes read_fault_note)
-fault_end files words name before now asks rose = inr (inr (inr (record { ended = refl; name = name; asks = asks; rose = rose; texts = λ o. refl })))
-
--- what was decided of a program is found
-pub found_is_found : (b : Bounds) (p : Program) (d : Decided) → IsDefault b → AreRight (findings b p d) → (IsUndecided (findings b p d) → ⊥) → IsFound p (text_of (findings b p d))
-found_is_found b p d default right decided = record {
-  findings = findings b p d;
-  program = refl;
-  bounds = default;
-  right = right;
-  decided = decided;
-  texts = λ o. refl;
-}
-
--- a call that wrote nothing before goes on from where it began
-adds_from : (first second third : Out → Option (List ℕ)) (P : (Out → List ℕ) → Type 0) → ((o : Out) → second o ≡ first o) → AddsText second third P → AddsText first third P
-adds_from first second third P stays h = record { text = h.text; adds = λ o. h.adds o ∙ ap (λ w. with_piece w (h.text o)) (stays o); right = h.right }
-
-front_from : (first second third : Out → Option (List ℕ)) (P : (Out → List ℕ) → Type 0) → ((o : Out) → second o ≡ first o) → AddsTextFront second third P → AddsTextFront first third P
-front_from first second third P stays h = record {
-  text = h.text;
-  adds = λ o. let f = h.adds o in record { front = f.front; rest = f.rest; whole = f.whole; added = f.added ∙ ap (λ w. with_piece w f.front) (stays o) };
-  right = h.right;
-}
-
-cut_from : (first second third : Out → Option (List ℕ)) (files : Option (List ℕ → Option (List ℕ))) (words : List (List ℕ)) (before now : ℕ) → ((o : Out) → second o ≡ first o)
-    → IsCutShort files words before now second third → IsCutShort files words before now first third
-cut_from first second third files words before now stays (inl nothing) = inl (λ o. nothing o ∙ stays o)
-cut_from first second third files words before now stays (inr front) = inr (front_from first second third (EndsSomehow files words before now) stays front)
-
-pub ends_from : (r : Result Status DeskFault) (first second third : Out → Option (List ℕ)) (files : Option (List ℕ → Option (List ℕ))) (words : List (List ℕ)) (before now : ℕ) → ((o : Out) → second o ≡ first o)
-    → Ended files words before now second third r
-    → Ended files words before now first third r
-ends_from (Ok s) first second third files words before now stays h = adds_from first second third (Ends files words before now (status_of s)) stays h
-ends_from (Err e) first second third files words before now stays h = cut_from first second third files words before now stays h
+pub program_ends : (first second third : Moment) (words : List (List ℕ)) (name bytes : List ℕ) (b : Bounds) (p : Program) → AsksGen words name b → ReadsSource first second name bytes
+    → KeepsWriting first second → KeepsReading second third → StandsFor bytes p
+    → (r : Result Status DeskFault) → IfOk r (λ s. s ≡ Done) → MatchResult r (λ _. Finds second third b p) (λ _. IsCutFinding second third b p) → Ended first third words r
+program_ends first second third words name bytes b p asks source outputs_stay stays stands (Ok s) told f =
+    let read = read_program first second third words name bytes b p asks source stays stands in
+    subst (λ t. Ends first third words (status_of t)) (sym told) (inl (finishes first second third words b p outputs_stay read f))
+program_ends first second third words name bytes b p asks source outputs_stay stays stands (Err e) told f =
+    let read = read_program first second third words name bytes b p asks source stays stands in
+    record {
+      taken = f.taken;
+      adds = adds_from first second third f.taken outputs_stay f.adds;
+      allowed = MayTake.findings b p read f.right;
+    }
 
 -- the words ask for one source
-same_name : (words : List (List ℕ)) (a b : List ℕ) → AsksGen words a → AsksGen words b → a ≡ b
-same_name words a b h k = let e : codes "gen" ∷ a ∷ [] ≡ codes "gen" ∷ b ∷ [] = sym h.said ∙ k.said in cc
+same_name : (words : List (List ℕ)) (a b : List ℕ) (d e : Bounds) → AsksGen words a d → AsksGen words b e → a ≡ b
+same_name words a b d e h k = let same : codes "gen" ∷ a ∷ [] ≡ codes "gen" ∷ b ∷ [] = sym h.said ∙ k.said in cc
 
--- and where the desk tells, it has one content
-same_bytes : (files : List ℕ → Option (List ℕ)) (words : List (List ℕ)) (m n a b : List ℕ) → AsksGen words m → AsksGen words n → files m ≡ Some a → files n ≡ Some b → a ≡ b
-same_bytes files words m n a b h k e f = let g : Some a ≡ Some b = sym e ∙ ap files (same_name words m n h k) ∙ f in cc
+-- so a call that reads the source that the words ask for reads no other
+pub reads_asked : (before after : Moment) (words : List (List ℕ)) (a b : List ℕ) (d e : Bounds) → AsksGen words a d → AsksGen words b e → ReadsOnly before after a → ReadsOnly before after b
+reads_asked before after words a b d e h k = subst (ReadsOnly before after) (same_name words a b d e h k)
 
--- a call that was not cut short finishes a source that is built, where no read failed
-pub completes_from : (files : Option (List ℕ → Option (List ℕ))) (words : List (List ℕ)) (reads_before reads_now writes_before writes_now status : ℕ) (old new : Out → Option (List ℕ))
-    → AddsText old new (Ends files words reads_before reads_now status) → Completes files words reads_before reads_now writes_before writes_now status
-completes_from None words rb rn wb wn status old new h = tt
-completes_from (Some files) words rb rn wb wn status old new h = λ name bytes p asks has stands no_read no_write.
-    elim h.right [
-      | inl finishes ↦ elim finishes.ended [ inl zero ↦ inl zero | inr three ↦ inr (inl three) ]
-      | inr (inl misspells) ↦ absurd (misspells.asks name asks)
-      | inr (inr (inl refuses)) ↦ absurd (refuses.refused p (subst (λ bs. StandsFor bs p) (same_bytes files words name refuses.name bytes refuses.bytes asks refuses.asks has refuses.source) stands))
-      | inr (inr (inr fails)) ↦ absurd (no_read fails.rose)
-    ]
+-- what holds of each of a list's items holds of the last
+last_of : (P : Opened → Type 0) (files : List Opened) (file : Opened) → AllByRecursion P (files ++ file ∷ []) → P file
+last_of P [] file h = h.0
+last_of P (first ∷ files) file h = last_of P files file h.1
 
--- and refuses any other
-pub refuses_from : (files : Option (List ℕ → Option (List ℕ))) (words : List (List ℕ)) (reads_before reads_now writes_before writes_now status : ℕ) (old new : Out → Option (List ℕ))
-    → AddsText old new (Ends files words reads_before reads_now status) → RefusesWhole files words reads_before reads_now writes_before writes_now status
-refuses_from None words rb rn wb wn status old new h = tt
-refuses_from (Some files) words rb rn wb wn status old new h = λ name bytes asks has none no_read no_write.
-    elim h.right [
-      | inl finishes ↦ absurd (none finishes.findings.program (subst (λ bs. StandsFor bs finishes.findings.program) (same_bytes files words finishes.name name finishes.bytes bytes finishes.asks asks finishes.source has) finishes.program))
-      | inr (inl misspells) ↦ absurd (misspells.asks name asks)
-      | inr (inr (inl refuses)) ↦ inl refuses.ended
-      | inr (inr (inr fails)) ↦ absurd (no_read fails.rose)
-    ]
+-- a desk that tells its files tells what follows the bytes that were moved
+told_rest : (files : Option (List ℕ → Option (List ℕ))) (opened : List Opened) (file : Opened) (name bytes : List ℕ) → file.name ≡ name
+    → IfSome files (λ fs. All (IsOfFile fs) (opened ++ file ∷ [])) → IsSomeAnd files (λ fs. fs name ≡ Some bytes)
+    → (rest : List ℕ) × (bytes ≡ file.moved ++ rest) × (IsTrue file.ended → rest ≡ [])
+told_rest None opened file name bytes named told has = absurd has
+told_rest (Some files) opened file name bytes named told has =
+    let is_of = last_of (IsOfFile files) opened file (recursion_from_All (IsOfFile files) (opened ++ file ∷ []) told) in
+    let same : Some bytes ≡ Some (file.moved ++ is_of.rest) = sym has ∙ ap files (sym named) ∙ is_of.bytes in
+    (is_of.rest, cc, is_of.end)
 
--- both, for a call that was not cut short
-pub ruleset whole_ends = (completes_from, refuses_from)
+-- the bytes that were moved out of the first of some files
+abbrev first_moved : List Opened → List ℕ
+first_moved [] = []
+first_moved (file ∷ files) = file.moved
+
+-- the bytes of the source are those that were moved and then others, none where its end was met
+source_rest : (before after : Moment) (name bytes moved : List ℕ) (ended : Bool) → TellsTruly after → after.files ≡ before.files → HasSource before after name bytes → HasRead before after name moved ended
+    → (rest : List ℕ) × (bytes ≡ moved ++ rest) × (IsTrue ended → rest ≡ [])
+source_rest before after name bytes moved ended told files (inl has) read =
+    told_rest after.files before.opened (record { name = name; moved = moved; ended = ended }) name bytes refl
+    (subst (λ opened. IfSome after.files (λ fs. All (IsOfFile fs) opened)) read.opened told)
+    (subst (λ known. IsSomeAnd known (λ fs. fs name ≡ Some bytes)) (sym files) has)
+source_rest before after name bytes moved ended told files (inr whole) read =
+    let file : Opened = record { name = name; moved = moved; ended = ended } in
+    let other : Opened = record { name = name; moved = bytes; ended = true } in
+    let same : file ∷ [] ≡ other ∷ [] = append_left_injective before.opened (file ∷ []) (other ∷ []) (sym read.opened ∙ whole.opened) in
+    let moved_same : moved ≡ bytes = ap first_moved same in
+    ([], sym moved_same ∙ sym (append-nil moved), λ e. refl)
+
+-- a call that was not cut short finishes a source that stands for a program
+pub completes_from : (before after : Moment) (words : List (List ℕ)) (status : ℕ) → TellsTruly after → after.files ≡ before.files → Ends before after words status → Completes before after words status
+completes_from before after words status told files h = λ name bytes b p asks has stands calm. elim h [
+  | inl finishes ↦ elim finishes.ended [ inl done ↦ inl done | inr undecided ↦ inr (inl undecided) ]
+  | inr (inl misspells) ↦ absurd (misspells.asks name b asks)
+  | inr (inr (inl refuses)) ↦
+      let source = refuses.source in
+      let same = same_name words name source.name b source.bounds asks source.asks in
+      let rest = source_rest before after source.name bytes source.bytes source.ended told files (subst (λ n. HasSource before after n bytes) same has) source.read in
+      absurd (refused_or_built bytes p refuses.refusal stands (subst (λ xs. IsRefused xs refuses.refusal) (sym rest.1) (source.refused rest.0 rest.2)))
+  | inr (inr (inr fails)) ↦ absurd (calm.reads fails.source.rose)
+]
+
+-- and tells a refusal
+pub refuses_from : (before after : Moment) (words : List (List ℕ)) (status : ℕ) → TellsTruly after → after.files ≡ before.files → Ends before after words status → RefusesWhole before after words status
+refuses_from before after words status told files h = λ name bytes b refusal asks has refused calm. elim h [
+  | inl finishes ↦
+      let source = finishes.source in
+      let same = same_name words name source.name b finishes.findings.bounds asks source.asks in
+      let rest = source_rest before after source.name bytes source.bytes true told files (subst (λ n. HasSource before after n bytes) same has) source.read in
+      let whole : bytes ≡ source.bytes = rest.1 ∙ ap (λ xs. source.bytes ++ xs) (rest.2 refl) ∙ append-nil source.bytes in
+      absurd (refused_or_built bytes finishes.findings.program refusal (subst (λ xs. StandsFor xs finishes.findings.program) (sym whole) source.program) refused)
+  | inr (inl misspells) ↦ absurd (misspells.asks name b asks)
+  | inr (inr (inl refuses)) ↦ inl refuses.ended
+  | inr (inr (inr fails)) ↦ absurd (calm.reads fails.source.rose)
+]
+
+-- each status tells how a call ended that was not cut short
+pub finishes_from : (before after : Moment) (words : List (List ℕ)) (status : ℕ) → Ends before after words status → (status ≡ DONE) ⊎ (status ≡ UNDECIDED) → Finishes before after words status
+finishes_from before after words status (inl finishes) e = finishes
+finishes_from before after words status (inr (inl misspells)) e = absurd (elim e [ inl done ↦ omega (arith, misspells.ended) | inr undecided ↦ omega (arith, misspells.ended) ])
+finishes_from before after words status (inr (inr (inl refuses))) e = absurd (elim e [ inl done ↦ omega (arith, refuses.ended) | inr undecided ↦ omega (arith, refuses.ended) ])
+finishes_from before after words status (inr (inr (inr fails))) e = absurd (elim e [ inl done ↦ omega (arith, fails.ended) | inr undecided ↦ omega (arith, fails.ended) ])
+
+-- the status of a job that finished is one of two
+two_ends : (before after : Moment) (words : List (List ℕ)) (status other : ℕ) → Finishes before after words status → status ≡ other → other ≢ DONE → other ≢ UNDECIDED → ⊥
+two_ends before after words status other finishes e done undecided = elim finishes.ended [ inl f ↦ done (sym e ∙ f) | inr f ↦ undecided (sym e ∙ f) ]
+
+pub misspells_from : (before after : Moment) (words : List (List ℕ)) (status : ℕ) → Ends before after words status → status ≡ WRONG_WORDS → Misspells before after words status
+misspells_from before after words status (inl finishes) e = absurd (two_ends before after words status WRONG_WORDS finishes e (λ f. omega arith) (λ f. omega arith))
+misspells_from before after words status (inr (inl misspells)) e = misspells
+misspells_from before after words status (inr (inr (inl refuses))) e = absurd (omega (arith, refuses.ended))
+misspells_from before after words status (inr (inr (inr fails))) e = absurd (omega (arith, fails.ended))
+
+pub refusal_from : (before after : Moment) (words : List (List ℕ)) (status : ℕ) → Ends before after words status → status ≡ REFUSED → Refuses before after words status
+refusal_from before after words status (inl finishes) e = absurd (two_ends before after words status REFUSED finishes e (λ f. omega arith) (λ f. omega arith))
+refusal_from before after words status (inr (inl misspells)) e = absurd (omega (arith, misspells.ended))
+refusal_from before after words status (inr (inr (inl refuses))) e = refuses
+refusal_from before after words status (inr (inr (inr fails))) e = absurd (omega (arith, fails.ended))
+
+pub fails_from : (before after : Moment) (words : List (List ℕ)) (status : ℕ) → Ends before after words status → status ≡ READ_FAULT → FailsToRead before after words status
+fails_from before after words status (inl finishes) e = absurd (two_ends before after words status READ_FAULT finishes e (λ f. omega arith) (λ f. omega arith))
+fails_from before after words status (inr (inl misspells)) e = absurd (omega (arith, misspells.ended))
+fails_from before after words status (inr (inr (inl refuses))) e = absurd (omega (arith, refuses.ended))
+fails_from before after words status (inr (inr (inr fails))) e = fails
+
+-- words that ask for nothing are wrong words
+pub wrong_words_from : (before after : Moment) (words : List (List ℕ)) (status : ℕ) → Ends before after words status → AsksNothing words → status ≡ WRONG_WORDS
+wrong_words_from before after words status (inl finishes) none = absurd (none finishes.source.name finishes.findings.bounds finishes.source.asks)
+wrong_words_from before after words status (inr (inl misspells)) none = misspells.ended
+wrong_words_from before after words status (inr (inr (inl refuses))) none = absurd (none refuses.source.name refuses.source.bounds refuses.source.asks)
+wrong_words_from before after words status (inr (inr (inr fails))) none = absurd (none fails.source.name fails.source.bounds fails.source.asks)

@@ -1,15 +1,16 @@
 -- Right findings of the program of a source fit: their places, their tests and the numbers of these.
-use Rattle.std.proofs.Common.{◌≡◌, ℕ, ◌+◌, ◌*◌, ◌^◌, ◌<◌, ◌≤◌, true, false, List, [], ◌∷◌, Option, None, Some, IsSome, length, get_or, refl, ap, sym, subst, arith, lit<, if◌then◌else◌}
+use Rattle.std.proofs.Common.{◌≡◌, ℕ, ◌+◌, ◌*◌, ◌^◌, ◌<◌, ◌≤◌, true, false, List, [], ◌∷◌, Option, None, Some, IsSome, length, map, get_or, refl, ap, sym, subst, arith, lit<, if◌then◌else◌}
 use Prim.Native.Nat.{zero, suc}
 use Rattle.std.proofs.lemmas.List.Elements.{All-from_recursion}
+use Rattle.std.proofs.lemmas.List.{length-map}
 use Rattle.std.proofs.lemmas.Option.{slice_get_within, slice_get-get_or}
 use Rattle.std.specs.List.{All, AllByRecursion, slice_get}
 use Rattle.p4_program.specs.declared.bounds.Bounds.{Bounds}
 use Rattle.p4_program.specs.declared.input.Input.{Input}
+use Rattle.p4_program.specs.Blocks.{place_of, places_of}
 use Rattle.p4_program.specs.declared.program.Program.{Program}
 use Rattle.p4_program.specs.declared.program.StatementKind.{StatementKind}
 use Rattle.p4_meaning.specs.declared.outcome.Outcome.{Outcome}
-use Rattle.p4_meaning.specs.declared.outcome.Outcome.TheVariants.{Sent}
 use Rattle.p4_meaning.specs.declared.test.Expected.{Expected}
 use Rattle.p4_meaning.specs.declared.test.Expected.TheVariants.{Drop, Packet}
 use Rattle.p4_meaning.specs.declared.test.Nibble.{Nibble}
@@ -21,12 +22,14 @@ use Rattle.p4_meaning.specs.Expected.{digits_of, AllowsAll}
 use Rattle.p4_meaning.specs.Run.{Run}
 use Rattle.p4_meaning.specs.Test.{Agrees, Holds}
 use Rattle.p4_meaning.specs.Verdicts.{is_covered_by, credits_from, RightVerdict}
-use Rattle.p4_meaning.proofs.Runs.{some_run}
+use Rattle.p4_meaning.proofs.RunLemmas.{some_run}
 use Rattle.testgen_engine.specs.Findings.{Findings, AreRight}
 use Rattle.testgen_engine.specs.Report.{nibbles_of}
+use Rattle.testgen_engine.specs.declared.skeleton.TheConstants.{FIRST_LINE}
 use Rattle.testgen_engine.specs.Skeleton.{placed_from, StandsFor}
 use Rattle.testgen_engine.specs.Telling.{PlaceFits, VerdictFits, TestFits, FindingsFit}
 use Rattle.testgen_engine.proofs.DigitLemmas.{length-digits_of}
+use Rattle.testgen_engine.proofs.RunLemmas.{sent_is}
 
 -- a credit is the number of a statement
 credit_within : (first : ℕ) (vs : List Verdict) (test credit : ℕ) → slice_get (credits_from first vs test) 0 ≡ Some credit → (first ≤ credit) × (credit < first + length vs)
@@ -78,19 +81,15 @@ right_verdict_fits p b ts statement Unsteady few right = tt
 right_verdict_fits p b ts statement Undecided few right = tt
 
 -- the places of a source's statements, from a line on
-places_fit : (line : ℕ) (kinds : List StatementKind) → line + length kinds < 2 ^ 32 → AllByRecursion PlaceFits (placed_from line kinds)
-places_fit line [] few = tt
-places_fit line (kind ∷ kinds) few = (record { line = omega arith; column = lit< tt }, places_fit (suc line) kinds (omega arith))
+places_fit : (number line : ℕ) (kinds : List StatementKind) → line + length kinds < 2 ^ 32 → AllByRecursion PlaceFits (map place_of (placed_from number line kinds))
+places_fit number line [] few = tt
+places_fit number line (kind ∷ kinds) few = (record { line = omega arith; column = lit< tt }, places_fit (suc number) (suc line) kinds (omega arith))
 
-source_places_fit : (bytes : List ℕ) (p : Program) → StandsFor bytes p → All PlaceFits p.statements
+source_places_fit : (bytes : List ℕ) (p : Program) → StandsFor bytes p → All PlaceFits (places_of p)
 source_places_fit bytes p source =
     let few = source.few in
-    subst (All PlaceFits) (sym source.statements)
-    (All-from_recursion PlaceFits (placed_from 11 source.kinds) (places_fit 11 source.kinds (omega arith)))
-
--- what a run sends is the packet that came in
-sent_is : (p : Program) (b : Bounds) (x : Input) (port : ℕ) (bytes marks : List ℕ) → Run p b x (Sent port bytes) marks → bytes ≡ x.packet
-sent_is p b x port bytes marks run = run.leaves.2
+    subst (λ ss. All PlaceFits (map place_of ss)) (sym source.statements)
+    (All-from_recursion PlaceFits (map place_of (placed_from 1 FIRST_LINE source.kinds)) (places_fit 1 FIRST_LINE source.kinds (omega arith)))
 
 -- there are as many nibbles as digits that they allow
 length-AllowsAll : (nibbles : List Nibble) (digits : List ℕ) → AllowsAll nibbles digits → length nibbles ≡ length digits
@@ -114,21 +113,23 @@ test_fits p b t holds =
     let low = bounded.port in
     let short = bounded.most_bytes in
     let most = b.most_bytes in
-    let run = some_run p b t.input in
+    let run = some_run p b t.input bounded in
     let few = nibbles_few p b t.input t.expected run.0 run.1 run.2 (holds.each run.0 run.1 run.2) in
     record { port = omega arith; packet = bounded.bytes; nibbles = omega arith }
 
 pub right_findings_fit : (f : Findings) (bytes : List ℕ) → AreRight f → StandsFor bytes f.program → FindingsFit f
 right_findings_fit f bytes right source =
+    let found = right.so_far in
     let within = f.program.within in
-    let one_each = right.verdicts.one_each in
-    let few = few_tests f.program f.bounds f.verdicts f.tests right.chosen in
+    let places = length-map f.program.statements place_of in
+    let one_each = found.verdicts.one_each in
+    let few = few_tests f.program f.bounds f.verdicts f.tests found.chosen in
     record {
       one_each = one_each;
       places = source_places_fit bytes f.program source;
       verdicts = λ k d h.
-          right_verdict_fits f.program f.bounds f.tests (suc k) (get_or f.verdicts k d) (omega arith) (right.verdicts.right (suc k) (get_or f.verdicts k d) (slice_get-get_or f.verdicts k d h));
+          right_verdict_fits f.program f.bounds f.tests (suc k) (get_or f.verdicts k d) (omega arith) (found.verdicts.right (suc k) (get_or f.verdicts k d) (slice_get-get_or f.verdicts k d h));
       tests = λ k d h.
-          test_fits f.program f.bounds (get_or f.tests k d) (right.hold (suc k) (get_or f.tests k d) (slice_get-get_or f.tests k d h));
+          test_fits f.program f.bounds (get_or f.tests k d) (found.hold (suc k) (get_or f.tests k d) (slice_get-get_or f.tests k d h));
       count = omega arith;
     }

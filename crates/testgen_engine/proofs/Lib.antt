@@ -2,6 +2,7 @@ pub mod ChosenLemmas
 pub mod DigitLemmas
 pub mod Digits
 pub mod EndLemmas
+pub mod FindingsLemmas
 pub mod FitLemmas
 pub mod LineLemmas
 pub mod Lists
@@ -9,6 +10,7 @@ pub mod OutputLemmas
 pub mod PrintLemmas
 pub mod ReportLemmas
 pub mod RunLemmas
+pub mod SkeletonLemmas
 pub mod SourceLemmas
 pub mod TellingLemmas
 pub mod TestTextLemmas

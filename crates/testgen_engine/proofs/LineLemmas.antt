@@ -1,14 +1,17 @@
 -- Lemmas on the lines of statements: a text has one line at its front, and one list of statements.
-use Rattle.std.proofs.Common.{◌≡◌, ◌≢◌, ℕ, ◌+◌, ◌<◌, List, [], ◌∷◌, ◌++◌, length, get_or, refl, ap, sym, ◌∙◌, subst, append_assoc, length-append, arith}
+use Rattle.std.proofs.Common.{◌≡◌, ◌≢◌, ℕ, ◌+◌, ◌<◌, ◌≤◌, List, [], ◌∷◌, ◌++◌, length, map, get_or, refl, ap, sym, ◌∙◌, subst, append_assoc, length-append, arith}
 use Prim.Native.Nat.{suc}
 use Rattle.std.proofs.lemmas.Bool.{false≢true, eq-eqb}
 use Rattle.std.specs.Fmt.{decimal}
 use Rattle.std.specs.List.{flat_map, AllByRecursion}
 use Rattle.p4_program.specs.declared.program.Program.{Program}
+use Rattle.p4_program.specs.Numbered.{number_of, numbers_from}
+use Rattle.p4_program.specs.declared.program.Statement.{Statement}
 use Rattle.p4_program.specs.declared.program.StatementKind.{StatementKind}
 use Rattle.p4_program.specs.declared.program.StatementKind.TheVariants.{AssignEgressSpec, MarkToDrop}
+use Rattle.testgen_engine.specs.declared.skeleton.TheConstants.{COLUMN, MOST_STATEMENTS}
 use Rattle.testgen_engine.specs.Skeleton.{head_text, tail_text, assign_text, drop_text, end_text, line_text, FitsNineBits, placed_from, StandsFor, IsNotBuilt}
-use Rattle.testgen_engine.specs.Lines.{StartsNoDigit, IsNumberAt, IsNoNumber, IsLineAt, IsNoLine, IsBody, IsNoBody}
+use Rattle.testgen_engine.specs.Lines.{StartsNoDigit, IsNumberAt, IsNoNumber, IsLineAt, IsNoLine, IsBody, IsNoBody, IsSourceOf}
 use Rattle.testgen_engine.proofs.Digits.{same_number}
 use Rattle.testgen_engine.proofs.Lists.{append_left_injective}
 
@@ -98,33 +101,51 @@ same_lines (a ∷ ks) (b ∷ ls) x y p q h k e =
     (cc (first.0, others.0), others.1)
 
 -- statements at their places are as many as their kinds
-pub length-placed_from : (line : ℕ) (kinds : List StatementKind) → length (placed_from line kinds) ≡ length kinds
-length-placed_from line [] = refl
-length-placed_from line (kind ∷ kinds) = ap suc (length-placed_from (suc line) kinds)
+pub length_placed : (number line : ℕ) (kinds : List StatementKind) → length (placed_from number line kinds) ≡ length kinds
+length_placed number line [] = refl
+length_placed number line (kind ∷ kinds) = ap suc (length_placed (suc number) (suc line) kinds)
+
+-- and are numbered in order
+pub numbers_placed : (number line : ℕ) (kinds : List StatementKind)
+    → map number_of (placed_from number line kinds) ≡ numbers_from number (length (placed_from number line kinds))
+numbers_placed number line [] = refl
+numbers_placed number line (kind ∷ kinds) = ap (λ ns. number ∷ ns) (numbers_placed (suc number) (suc line) kinds)
+
+-- a statement at its place
+abbrev pub placed_at : ℕ → ℕ → StatementKind → Statement
+placed_at number line kind = record { number = number; place = record { line = line; column = COLUMN }; kind = kind }
 
 -- one more statement at its place
-pub placed_from-push : (line : ℕ) (kinds : List StatementKind) (kind : StatementKind)
-    → placed_from line (kinds ++ kind ∷ []) ≡ placed_from line kinds ++ record { place = record { line = line + length kinds; column = 5 }; kind = kind } ∷ []
-placed_from-push line [] kind = let e : line + 0 ≡ line = omega arith in rw e refl
-placed_from-push line (k ∷ kinds) kind =
-    let e : line + suc (length kinds) ≡ suc line + length kinds = omega arith in
-    rw e (ap (λ xs. record { place = record { line = line; column = 5 }; kind = k } ∷ xs) (placed_from-push (suc line) kinds kind))
+pub placed_push : (number line : ℕ) (kinds : List StatementKind) (kind : StatementKind)
+    → placed_from number line (kinds ++ kind ∷ []) ≡ placed_from number line kinds ++ placed_at (number + length kinds) (line + length kinds) kind ∷ []
+placed_push number line [] kind =
+    let e : number + 0 ≡ number = omega arith in
+    let f : line + 0 ≡ line = omega arith in
+    rw e (rw f refl)
+placed_push number line (k ∷ kinds) kind =
+    let e : number + suc (length kinds) ≡ suc number + length kinds = omega arith in
+    let f : line + suc (length kinds) ≡ suc line + length kinds = omega arith in
+    rw e (rw f (ap (λ xs. placed_at number line k ∷ xs) (placed_push (suc number) (suc line) kinds kind)))
 
 -- a source of a program has a body
-body_of : (bytes body : List ℕ) (p : Program) → bytes ≡ head_text ++ body → (s : StandsFor bytes p) → IsBody body s.kinds
+pub body_of : (bytes body : List ℕ) (p : Program) → bytes ≡ head_text ++ body → (s : StandsFor bytes p) → IsBody body s.kinds
 body_of bytes body p e s = record { fit = s.fit; whole = append_left_injective head_text body (flat_map line_text s.kinds ++ tail_text) (sym e ∙ s.text) }
 
-pub not_built-no_body : (bytes body : List ℕ) → bytes ≡ head_text ++ body → IsNoBody body → IsNotBuilt bytes
-not_built-no_body bytes body e none p s = none s.kinds (body_of bytes body p e s)
+pub not_built_no_body : (bytes body : List ℕ) → bytes ≡ head_text ++ body → IsNoBody body → IsNotBuilt bytes
+not_built_no_body bytes body e none p s = none s.kinds (body_of bytes body p e s)
 
 pub same_body : (body : List ℕ) (ks ls : List StatementKind) → IsBody body ks → IsBody body ls → ks ≡ ls
 same_body body ks ls h k = (same_lines ks ls tail_text tail_text h.fit k.fit no_line-tail no_line-tail (sym h.whole ∙ k.whole)).0
 
-pub not_built-many : (bytes body : List ℕ) (kinds : List StatementKind) → bytes ≡ head_text ++ body → IsBody body kinds → 16 < length kinds → IsNotBuilt bytes
-not_built-many bytes body kinds e h many p s =
+pub not_built_many : (bytes body : List ℕ) (kinds : List StatementKind) → bytes ≡ head_text ++ body → IsBody body kinds → MOST_STATEMENTS < length kinds → IsNotBuilt bytes
+not_built_many bytes body kinds e h many p s =
     let same : length kinds ≡ length s.kinds = ap length (same_body body kinds s.kinds h (body_of bytes body p e s)) in
     let few = s.few in
     absurd (omega arith)
+
+-- a head and a body that is short enough are a source
+pub source_of_body : (bytes body : List ℕ) (kinds : List StatementKind) → bytes ≡ head_text ++ body → IsBody body kinds → length kinds ≤ MOST_STATEMENTS → IsSourceOf bytes kinds
+source_of_body bytes body kinds e h few = record { few = few; fit = h.fit; text = e ∙ ap (λ xs. head_text ++ xs) h.whole }
 
 -- lines and then what is not the skeleton's end and begins with no line are no body
 pub no_body : (body : List ℕ) (kinds : List StatementKind) (rest : List ℕ) → AllByRecursion FitsNineBits kinds → body ≡ flat_map line_text kinds ++ rest → IsNoLine rest → rest ≢ tail_text → IsNoBody body

@@ -1,5 +1,5 @@
 -- A report is told apart line by line: the bounds, the statements with their verdicts, the counts.
-use Rattle.std.proofs.Common.{◌≡◌, ℕ, ◌+◌, ◌^◌, ◌<◌, ◌≤◌, List, [], ◌∷◌, ◌++◌, length, map, refl, ap, sym, ◌∙◌, append_assoc, arith}
+use Rattle.std.proofs.Common.{◌≡◌, ℕ, ◌+◌, ◌^◌, ◌<◌, ◌≤◌, List, [], ◌∷◌, ◌++◌, length, refl, ap, sym, ◌∙◌, append_assoc, arith}
 use Prim.Native.Nat.{suc}
 use lib.Chars.{codes}
 use mathlib.Core.HLevel.{is_prop→PathP}
@@ -9,14 +9,13 @@ use Rattle.std.specs.List.{AllByRecursion, concat}
 use Rattle.tg_base.specs.declared.place.Span.{Span}
 use Rattle.p4_program.specs.declared.bounds.Bounds.{Bounds}
 use Rattle.p4_program.specs.declared.bounds.TheConstants.{MAX_BYTES, MAX_STEPS, MAX_ENTRIES, MAX_BUDGET}
-use Rattle.p4_program.specs.declared.program.Statement.{Statement}
 use Rattle.p4_meaning.specs.VerdictText.{verdict_text}
 use Rattle.p4_meaning.specs.declared.test.Test.{Test}
 use Rattle.p4_meaning.specs.declared.verdict.Verdict.{Verdict}
 use Rattle.p4_meaning.specs.declared.verdict.Verdict.TheVariants.{Covered, Unreachable, Unsteady, Undecided}
 use Rattle.testgen_engine.specs.Lines.{StartsNoDigit}
 use Rattle.testgen_engine.specs.Report.{bounds_line, statement_line, statement_lines, verdict_counts, test_counts, counts_line, counts_of}
-use Rattle.testgen_engine.specs.Telling.{place_of, PlaceFits, VerdictFits}
+use Rattle.testgen_engine.specs.Telling.{PlaceFits, VerdictFits}
 use Rattle.testgen_engine.proofs.Digits.{same_decimal_behind, decimal_apart}
 use Rattle.testgen_engine.proofs.Lists.{append_left_injective, concat-then, same_pieces, differ_at}
 
@@ -77,34 +76,34 @@ abbrev line_pieces : Span → Verdict → List (List ℕ)
 line_pieces place verdict = codes " " ∷ decimal place.line ∷ codes ":" ∷ decimal place.column ∷ codes " " ∷ verdict_text verdict ∷ codes "\n" ∷ []
 
 -- one place and one verdict stand behind the number of a statement
-same_statement_line : (number : ℕ) (s t : Statement) (v w : Verdict) (x y : List ℕ) → PlaceFits s → PlaceFits t → VerdictFits v → VerdictFits w
-    → statement_line number s.place v ++ x ≡ statement_line number t.place w ++ y → (s.place ≡ t.place) × (v ≡ w) × (x ≡ y)
+same_statement_line : (number : ℕ) (s t : Span) (v w : Verdict) (x y : List ℕ) → PlaceFits s → PlaceFits t → VerdictFits v → VerdictFits w
+    → statement_line number s v ++ x ≡ statement_line number t w ++ y → (s ≡ t) × (v ≡ w) × (x ≡ y)
 same_statement_line number s t v w x y p q h k e =
-    let behind = append_left_injective (decimal number) _ _ (same_pieces (decimal number ∷ line_pieces s.place v) (decimal number ∷ line_pieces t.place w) x y e) in
-    let line = same_decimal_behind (codes " ") s.place.line t.place.line _ _ behind (let l = p.line in omega arith) (let l = q.line in omega arith) refl refl in
-    let column = same_decimal_behind (codes ":") s.place.column t.place.column _ _ line.1 (let l = p.column in omega arith) (let l = q.column in omega arith) refl refl in
+    let behind = append_left_injective (decimal number) _ _ (same_pieces (decimal number ∷ line_pieces s v) (decimal number ∷ line_pieces t w) x y e) in
+    let line = same_decimal_behind (codes " ") s.line t.line _ _ behind (let l = p.line in omega arith) (let l = q.line in omega arith) refl refl in
+    let column = same_decimal_behind (codes ":") s.column t.column _ _ line.1 (let l = p.column in omega arith) (let l = q.column in omega arith) refl refl in
     let verdict = same_verdict v w x y h k (append_left_injective (codes " ") _ _ column.1) in
     ((λ i. record { line = line.0 i; column = column.0 i }), verdict.0, verdict.1)
 
 -- the lines of statements are told apart from what does not begin with a digit
-pub same_statement_lines : (number : ℕ) (ss ts : List Statement) (vs ws : List Verdict) (x y : List ℕ) → number + length ss < 2 ^ 64 → number + length ts < 2 ^ 64
+pub same_statement_lines : (number : ℕ) (ss ts : List Span) (vs ws : List Verdict) (x y : List ℕ) → number + length ss < 2 ^ 64 → number + length ts < 2 ^ 64
     → length vs ≡ length ss → length ws ≡ length ts
     → AllByRecursion PlaceFits ss → AllByRecursion PlaceFits ts → AllByRecursion VerdictFits vs → AllByRecursion VerdictFits ws → StartsNoDigit x → StartsNoDigit y
-    → statement_lines number ss vs ++ x ≡ statement_lines number ts ws ++ y → (map place_of ss ≡ map place_of ts) × (vs ≡ ws) × (x ≡ y)
+    → statement_lines number ss vs ++ x ≡ statement_lines number ts ws ++ y → (ss ≡ ts) × (vs ≡ ws) × (x ≡ y)
 same_statement_lines number [] [] [] [] x y few fewer l m p q h k a b e = (refl, refl, e)
 same_statement_lines number [] (t ∷ ts) [] (w ∷ ws) x y few fewer l m p q h k a b e =
     let others = statement_lines (suc number) ts ws in
-    let line = decimal number ∷ line_pieces t.place w in
+    let line = decimal number ∷ line_pieces t w in
     absurd (decimal_apart number _ x (sym (concat-then line (others ++ y)) ∙ sym (append_assoc (concat line) others y) ∙ sym e) (omega arith) refl a)
 same_statement_lines number (s ∷ ss) [] (v ∷ vs) [] x y few fewer l m p q h k a b e =
     let others = statement_lines (suc number) ss vs in
-    let line = decimal number ∷ line_pieces s.place v in
+    let line = decimal number ∷ line_pieces s v in
     absurd (decimal_apart number _ y (sym (concat-then line (others ++ x)) ∙ sym (append_assoc (concat line) others x) ∙ e) (omega arith) refl b)
 same_statement_lines number (s ∷ ss) (t ∷ ts) (v ∷ vs) (w ∷ ws) x y few fewer l m p q h k a b e =
     let left = statement_lines (suc number) ss vs in
     let right = statement_lines (suc number) ts ws in
     let first = same_statement_line number s t v w (left ++ x) (right ++ y) p.0 q.0 h.0 k.0
-    (sym (append_assoc (statement_line number s.place v) left x) ∙ e ∙ append_assoc (statement_line number t.place w) right y) in
+    (sym (append_assoc (statement_line number s v) left x) ∙ e ∙ append_assoc (statement_line number t w) right y) in
     let others = same_statement_lines (suc number) ss ts vs ws x y (omega arith) (omega arith) (omega arith) (omega arith) p.1 q.1 h.1 k.1 a b first.2 in
     (cc (first.0, others.0), cc (first.1, others.1), others.2)
 same_statement_lines number [] ts (v ∷ vs) ws x y few fewer l m p q h k a b e = absurd (omega arith)

@@ -1,101 +1,125 @@
--- Lemmas on reading a file in pieces.
-use Rattle.std.proofs.Common.{◌≡◌, ℕ, ◌+◌, ◌-◌, ◌≤◌, Bool, List, [], ◌∷◌, ◌++◌, Option, None, Some, length, take, drop, inr, refl, ap, sym, ◌∙◌, subst, arith, append-nil, Result, Ok, Err, IfOk, IfSome}
-use Rattle.std.proofs.Math.Seq.{drop-append_seam, drop-append-add}
-use Rattle.std.proofs.lemmas.List.{take_all, take-append-le}
-use Rattle.tg_base.specs.Content.{OpensAtStart}
-use Rattle.testgen_engine.specs.Endings.{HasFile}
-use Rattle.testgen_engine.specs.Source.{MovesOn, AtEnd, IsFront, TakesFront, TakesAtMost, IsReadWhole}
+-- Lemmas on reading a source in pieces.
+use Rattle.std.proofs.Common.{◌≡◌, ℕ, ◌+◌, ◌≤◌, Bool, true, false, nat_lt, IsTrue, List, [], ◌∷◌, ◌++◌, length, take, drop, inl, inr, refl, ap, sym, ◌∙◌, subst, arith, append-nil, Result, Ok, Err, IsErrAnd, MatchResult, length-drop, length-append}
+use Prim.Native.Nat.{zero, suc}
+use Rattle.std.proofs.Math.Seq.{take-append-add}
+use Rattle.std.proofs.lemmas.Bool.{false≢true, lt-ltb}
+use Rattle.std.proofs.lemmas.List.{take_all, take-append-le, length-take-le}
+use Rattle.std.proofs.lemmas.Result.{err_from_is_err_and}
+use Rattle.std.proofs.lemmas.Slice.{take-put_mid}
+use borrow.Rule.Slice.PartMut.{put_mid, same_len_mid}
+use Rattle.tg_base.specs.declared.desk.DeskFault.{DeskFault}
+use Rattle.tg_base.specs.declared.desk.DeskFault.TheVariants.{Failed, Memory}
+use Rattle.tg_base.specs.Faults.{HasCause}
+use Rattle.tg_base.specs.Moment.{Moment, KeepsReading, is_end, just_opened, after_read}
+use Rattle.tg_base.proofs.MomentLaws.{after_read_last}
+use Rattle.testgen_engine.specs.declared.source.TheConstants.{MOST_BYTES}
+use Rattle.testgen_engine.specs.Source.{HasRead, FailsReading, ReadsOnly, ReadsSource, StopsReading}
 
--- no list but the empty one is a front of the empty list
-append_is_nil : (xs ys : List ℕ) → xs ++ ys ≡ [] → xs ≡ []
-append_is_nil [] ys e = refl
-append_is_nil (x ∷ xs) ys e = cc
+-- the end of a buffer has as many bytes as fit
+pub room_is : (start room : ℕ) (buffer : List ℕ) → start + room ≡ length buffer → length (take room (drop start buffer)) ≡ room
+room_is start room buffer fits = length-take-le room (drop start buffer) (omega (arith, length-drop start buffer))
 
--- a whole list is its first items, however many more are asked for
-front_of_all : (most : ℕ) (xs rest : List ℕ) → rest ≡ xs ++ [] → length xs ≤ most → xs ≡ take most rest
-front_of_all most xs rest e low =
-    let f : rest ≡ xs = e ∙ append-nil xs in
-    sym (ap (take most) f ∙ take_all most xs low)
+-- a part at the end of a buffer was written, and its first bytes count
+pub part_written : (start count room : ℕ) (buffer part : List ℕ) → start + room ≡ length buffer → length part ≡ room → count ≤ room
+    → (take (start + count) (put_mid start room buffer part) ≡ take start buffer ++ take count part) × (length (put_mid start room buffer part) ≡ length buffer)
+part_written start count room buffer part fits long few =
+    let same : length (put_mid start room buffer part) ≡ length buffer = same_len_mid start room buffer part (long ∙ sym (room_is start room buffer fits)) in
+    let first : length (take start buffer) ≡ start = length-take-le start buffer (omega arith) in
+    let whole : put_mid start room buffer part ≡ take start buffer ++ part =
+    sym (take_all (start + room) (put_mid start room buffer part) (omega arith)) ∙ take-put_mid start room buffer part (start + room) (omega arith) (omega arith) in
+    (ap (take (start + count)) whole ∙ ap (λ n. take (n + count) (take start buffer ++ part)) (sym first) ∙ take-append-add (take start buffer) part count, same)
 
--- all that may be taken is read
-pub front_at_room : (most : ℕ) (first second : Option (List ℕ)) (a : List ℕ) → MovesOn first [] second a → length a ≡ most → IsFront most first a
-front_at_room most None second a h e = tt
-front_at_room most (Some rest) second a h e =
-    let g : a ≡ h.0 = h.4 in
-    let f : rest ≡ a ++ h.1 = h.2 ∙ ap (λ ys. ys ++ h.1) (sym g) in
-    sym (ap (take most) f ∙ take-append-le most a h.1 (omega arith) ∙ take_all most a (omega arith))
+-- a buffer that is cut where its bytes end
+pub truncated : (count whole : ℕ) (buffer items : List ℕ) → length buffer ≡ whole → take count (take whole (buffer ++ drop (length buffer) items)) ≡ take count buffer
+truncated count whole buffer items fits =
+    ap (take count) (take-append-le whole buffer (drop (length buffer) items) (omega arith) ∙ take_all whole buffer (omega arith))
 
--- the file is at its end
-pub front_at_end : (most : ℕ) (first second third : Option (List ℕ)) (a b : List ℕ) → MovesOn first [] second a → MovesOn second a third b → AtEnd second → length b ≤ most → IsFront most first b
-front_at_end most None second third a b h k e low = tt
-front_at_end most (Some rest) None third a b h k e low = let f = h.3 in cc
-front_at_end most (Some rest) (Some left) third a b h k e low =
-    let l : left ≡ h.1 = let same : Some left ≡ Some h.1 = h.3 in cc in
-    let empty : left ≡ [] = e in
-    let none : k.0 ≡ [] = append_is_nil k.0 k.1 (sym k.2 ∙ empty) in
-    let same : b ≡ a = k.4 ∙ ap (λ ys. a ++ ys) none ∙ append-nil a in
-    let read : a ≡ h.0 = h.4 in
-    let whole : rest ≡ h.0 ++ [] = h.2 ∙ ap (λ ys. h.0 ++ ys) (sym l ∙ empty) in
-    let equal : h.0 ≡ b = sym read ∙ sym same in
-    front_of_all most b rest (subst (λ ys. rest ≡ ys ++ []) equal whole) low
+-- a file that was just opened
+pub opened_read : (first second : Moment) (name : List ℕ) → second.asked ≡ first.asked ++ name ∷ [] → second.opened ≡ first.opened ++ just_opened name ∷ [] → HasRead first second name [] false
+opened_read first second name asked opened = record { asked = asked; opened = opened; few = omega arith; met = λ e. absurd (false≢true e) }
 
--- what is read of an opened file is its front
-pub source_read : {Z : Type 0} {E : Type 0} (bytes_of : Z → List ℕ) (most : ℕ) (files : Option (List ℕ → Option (List ℕ))) (rest : Option (List ℕ)) (name : List ℕ)
-    → OpensAtStart files name rest → (r : Result Z E) → IfOk r (λ z. IsFront most rest (bytes_of z) × (length (bytes_of z) ≤ most))
-    → IfOk r (λ z. (whole : List ℕ) × HasFile files name whole × (bytes_of z ≡ take most whole))
-source_read bytes_of most files rest name opened (Err e) h = tt
-source_read bytes_of most None None name opened (Ok z) h = (bytes_of z, tt, sym (take_all most (bytes_of z) h.1))
-source_read bytes_of most None (Some left) name opened (Ok z) h = (left, tt, h.0)
-source_read bytes_of most (Some files) None name opened (Ok z) h = let e = opened.0 in cc
-source_read bytes_of most (Some files) (Some left) name opened (Ok z) h = (left, opened.1, h.0)
+-- a read from the file that was opened last
+read_piece : (first second third : Moment) (name moved piece : List ℕ) → HasRead first second name moved false → third.asked ≡ second.asked → third.opened ≡ after_read second.opened piece
+    → length (moved ++ piece) ≤ MOST_BYTES → (IsTrue (is_end piece) → third.readable ≡ false) → HasRead first third name (moved ++ piece) (is_end piece)
+read_piece first second third name moved piece h asked opened few met = record {
+  asked = asked ∙ h.asked;
+  opened = opened ∙ ap (λ files. after_read files piece) h.opened ∙ after_read_last first.opened (record { name = name; moved = moved; ended = false }) piece;
+  few = few;
+  met = met;
+}
 
--- what was read so far is a front of the file, and the rest of it is left
-read_front : (rest left a : List ℕ) → MovesOn (Some rest) [] (Some left) a → rest ≡ a ++ left
-read_front rest left a h =
-    let l : left ≡ h.1 = let same : Some left ≡ Some h.1 = h.3 in cc in
-    h.2 ∙ ap (λ ys. h.0 ++ ys) (sym l) ∙ ap (λ ys. ys ++ left) (sym h.4)
+-- one that moved nothing met the end
+pub read_nothing : (first second third : Moment) (name moved part : List ℕ) (count : ℕ) → HasRead first second name moved false → third.asked ≡ second.asked
+    → third.opened ≡ after_read second.opened (take count part) → count ≡ 0 → third.readable ≡ nat_lt 0 count → HasRead first third name moved true
+read_nothing first second third name moved part count h asked opened none readable =
+    let none_moved = opened ∙ ap (λ n. after_read second.opened (take n part)) none in
+    let closed = readable ∙ ap (nat_lt 0) none in
+    let read = read_piece first second third name moved [] h asked none_moved (omega (arith, h.few, ap length (append-nil moved))) (λ e. closed) in
+    subst (λ xs. HasRead first third name xs true) (append-nil moved) read
 
--- what was read was taken from the front
-pub moves_takes : (most : ℕ) (first second : Option (List ℕ)) (a : List ℕ) → MovesOn first [] second a → length a ≤ most → TakesFront most first second
-moves_takes most None second a h low = tt
-moves_takes most (Some rest) None a h low = let e = h.3 in cc
-moves_takes most (Some rest) (Some left) a h low =
-    (length a, low, ap Some (sym (ap (drop (length a)) (read_front rest left a h) ∙ drop-append_seam a left)))
+-- one that moved bytes did not
+moves_on : (count : ℕ) (part : List ℕ) → (count ≡ 0 → ⊥) → count ≤ length part → is_end (take count part) ≡ false
+moves_on zero part some within = absurd (some refl)
+moves_on (suc count) [] some within = absurd (omega arith)
+moves_on (suc count) (byte ∷ part) some within = refl
 
--- and what is taken next, with it
-pub takes_after : (most count : ℕ) (first second third : Option (List ℕ)) (a : List ℕ) → MovesOn first [] second a → count ≡ length a → count ≤ most → TakesFront (most - count) second third → TakesFront most first third
-takes_after most count None second third a h e low k = tt
-takes_after most count (Some rest) None third a h e low k = let f = h.3 in cc
-takes_after most count (Some rest) (Some left) third a h e low k =
-    (length a + k.0, omega (arith, k.1), k.2 ∙ ap Some (sym (ap (drop (length a + k.0)) (read_front rest left a h) ∙ drop-append-add a left k.0)))
+pub read_more : (first second third : Moment) (name moved part : List ℕ) (count : ℕ) → HasRead first second name moved false → third.asked ≡ second.asked
+    → third.opened ≡ after_read second.opened (take count part) → (count ≡ 0 → ⊥) → count ≤ length part → length moved + count ≤ MOST_BYTES → HasRead first third name (moved ++ take count part) false
+read_more first second third name moved part count h asked opened some within few =
+    let on = moves_on count part some within in
+    let long : length (moved ++ take count part) ≤ MOST_BYTES = omega (arith, length-append moved (take count part), length-take-le count part within) in
+    subst (HasRead first third name (moved ++ take count part)) on
+    (read_piece first second third name moved (take count part) h asked opened long (λ e. absurd (false≢true (sym on ∙ e))))
 
--- a file at its end stays there
-nil_right : (xs ys : List ℕ) → xs ++ ys ≡ [] → ys ≡ []
-nil_right [] ys e = e
-nil_right (x ∷ xs) ys e = cc
+-- and leaves the desk readable
+pub still_readable : (count : ℕ) (readable : Bool) → (count ≡ 0 → ⊥) → readable ≡ nat_lt 0 count → IsTrue readable
+still_readable count readable some e = e ∙ lt-ltb 0 count (omega arith)
 
-pub ends_there : (first second third : Option (List ℕ)) (a b : List ℕ) → MovesOn first [] second a → MovesOn second a third b → AtEnd second → IfSome first (λ _. third ≡ Some [])
-ends_there None second third a b h k e = tt
-ends_there (Some rest) None third a b h k e = let f = h.3 in cc
-ends_there (Some rest) (Some left) third a b h k e = k.3 ∙ ap Some (nil_right k.0 k.1 (sym k.2 ∙ e))
+-- a reading that stops at the file that was opened
+pub stops_inside : (first second third : Moment) (name moved : List ℕ) (fault : DeskFault) → HasRead first second name moved false → third.asked ≡ second.asked → third.opened ≡ second.opened
+    → StopsReading first third name fault
+stops_inside first second third name moved fault h asked opened =
+    let read : HasRead first third name moved false = record { asked = asked ∙ h.asked; opened = opened ∙ h.opened; few = h.few; met = λ e. absurd (false≢true e) } in
+    elim fault as (StopsReading first third name) [ Failed ↦ inr (moved, read) | Memory ↦ inr (inr (moved, false, read)) ]
 
--- what is taken of an opened file
-pub taken_of_opened : (most : ℕ) (files : Option (List ℕ → Option (List ℕ))) (name : List ℕ) (opened left : Option (List ℕ)) → OpensAtStart files name opened → TakesFront most opened left → TakesAtMost most files name left
-taken_of_opened most None name opened left h k = tt
-taken_of_opened most (Some files) name None left h k = let e = h.0 in cc
-taken_of_opened most (Some files) name (Some bytes) left h k = (bytes, k.0, h.1, k.1, k.2)
+pub stops : {T : Type 0} (first third : Moment) (name : List ℕ) (fault : DeskFault) (P : T → Type 0) (r : Result T DeskFault) → IsErrAnd r (λ e. e ≡ fault) → StopsReading first third name fault
+    → MatchResult r P (StopsReading first third name)
+stops {T} first third name fault P r failed h =
+    let p = err_from_is_err_and r failed in
+    subst (λ (x : Result T DeskFault). MatchResult x P (StopsReading first third name)) (sym (p.1 ∙ ap Err p.2)) h
 
--- an opened file that was read whole is the one of the name
-pub whole_of_opened : {Z E : Type 0} (r : Result Z E) (Short : Z → Type 0) (files : Option (List ℕ → Option (List ℕ))) (name : List ℕ) (opened left : Option (List ℕ)) (readable : Bool) → OpensAtStart files name opened
-    → IfOk r (λ z. Short z → IsReadWhole opened left readable) → IfOk r (λ z. Short z → IsReadWhole files left readable)
-whole_of_opened (Err e) Short files name opened left readable o h = tt
-whole_of_opened (Ok z) Short None name opened left readable o h = λ short. record { met = (h short).met; nothing_left = tt }
-whole_of_opened (Ok z) Short (Some files) name None left readable o h = let e = o.0 in cc
-whole_of_opened (Ok z) Short (Some files) name (Some bytes) left readable o h = λ short. record { met = (h short).met; nothing_left = (h short).nothing_left }
+-- what was read stays so where the desk is only written to
+pub read_stays : (first second third : Moment) (name moved : List ℕ) (ended : Bool) → HasRead first second name moved ended → KeepsReading second third → HasRead first third name moved ended
+read_stays first second third name moved ended h stays = record {
+  asked = stays.asked ∙ h.asked;
+  opened = stays.opened ∙ h.opened;
+  few = h.few;
+  met = λ e. stays.readable ∙ h.met e;
+}
 
--- and stays so, where the file is not read further
-pub whole_stays : {S E T : Type 0} (r : Result S E) (P : S → Type 0) (Short : Type 0) (told : Option T) (left now : Option (List ℕ)) (before after : Bool) → IfOk r (λ s. P s → Short)
-    → (Short → IsReadWhole told left before) → now ≡ left → after ≡ before → IfOk r (λ s. P s → IsReadWhole told now after)
-whole_stays (Err e) P Short told left now before after h whole same_left same_readable = tt
-whole_stays (Ok s) P Short told left now before after h whole same_left same_readable =
-    λ p. subst (λ l. IsReadWhole told l after) (sym same_left) (subst (IsReadWhole told left) (sym same_readable) (whole (h p)))
+-- a call that fails as one that it made
+pub cause_err : {S T : Type 0} (before now : ℕ) (r : Result S DeskFault) (s : Result T DeskFault) (fault : DeskFault) → HasCause before now r → r ≡ Err fault → IsErrAnd s (λ e. e ≡ fault) → HasCause before now s
+cause_err {S} {T} before now r s fault h e failed =
+    let p = err_from_is_err_and s failed in
+    let is_fault : s ≡ Err fault = p.1 ∙ ap Err p.2 in
+    let cause = subst (λ (x : Result S DeskFault). HasCause before now x) e h in
+    subst (λ (x : Result T DeskFault). HasCause before now x) (sym is_fault) (record {
+      later = cause.later;
+      failed = λ same. cause.failed (let f : fault ≡ Failed = cc in ap Err f);
+      else_stays = λ other. cause.else_stays (λ same. other (let f : fault ≡ Failed = cc in ap Err f));
+    })
+
+-- a call that succeeds after one that did
+pub cause_ok : {S T : Type 0} (before now : ℕ) (x : S) (y : T) → HasCause before now (Ok x) → HasCause before now (Ok y)
+cause_ok before now x y h = record { later = h.later; failed = λ e. cc; else_stays = λ other. h.else_stays (λ same. cc) }
+
+-- so no other file is read
+pub reads_only : (first second third : Moment) (name bytes : List ℕ) → ReadsSource first second name bytes → KeepsReading second third → ReadsOnly first third name
+reads_only first second third name bytes source stays = inr (inr (bytes, source.ended, read_stays first second third name bytes source.ended source.read stays))
+
+pub fails_only : (first second third : Moment) (name : List ℕ) → FailsReading first second name → KeepsReading second third → ReadsOnly first third name
+fails_only first second third name (inl nothing) stays = inr (inl (record { asked = stays.asked ∙ nothing.asked; opened = stays.opened ∙ nothing.opened }))
+fails_only first second third name (inr read) stays = inr (inr (read.0, false, read_stays first second third name read.0 false read.1 stays))
+
+pub nothing_written : (m : Moment) → KeepsReading m m
+nothing_written m = record { files = refl; asked = refl; opened = refl; readable = refl; read_faults = refl }

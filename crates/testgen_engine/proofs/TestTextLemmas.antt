@@ -12,6 +12,8 @@ use Rattle.std.specs.List.{AllByRecursion, All, flat_map, list_all, slice_index}
 use Rattle.hex.specs.Hex.{encode_with, encode_lower, lower_digits, hex_digit_value}
 use Rattle.hex.proofs.HexLemmas.{IsDigits-lower_digits}
 use Rattle.p4_program.specs.declared.input.Input.{Input}
+use Rattle.p4_program.specs.declared.input.TheConstants.{MAX_PORT}
+use Rattle.p4_program.specs.declared.program.Program.{Program}
 use Rattle.p4_meaning.specs.Expected.{is_digit, is_printable}
 use Rattle.p4_meaning.specs.declared.test.Expected.{Expected}
 use Rattle.p4_meaning.specs.declared.test.Expected.TheVariants.{Drop, Packet}
@@ -139,10 +141,10 @@ same_glyphs (n ∷ ns) (m ∷ ms) x y p q e =
     cc (same_glyph n m left.0 right.0 (ap (λ zs. get_or zs 0 0) e), same_glyphs ns ms x y left.1 right.1 cc)
 
 -- the port that is expected is one that a packet can leave at, and the nibbles are of digits
-printable_port : (port : ℕ) (ns : List Nibble) → is_printable (Packet port ns) ≡ true → port ≤ 510
+printable_port : (port : ℕ) (ns : List Nibble) → is_printable (Packet port ns) ≡ true → port ≤ MAX_PORT
 printable_port port ns p =
     let some = and_parts _ (list_all is_digit ns) p in
-    leb-true port 510 (and_parts (nat_le port 510) _ some.0).0
+    leb-true port MAX_PORT (and_parts (nat_le port MAX_PORT) _ some.0).0
 
 printable_digits : (port : ℕ) (ns : List Nibble) → is_printable (Packet port ns) ≡ true → list_all is_digit ns ≡ true
 printable_digits port ns p = (and_parts _ (list_all is_digit ns) p).1
@@ -160,18 +162,18 @@ same_expected (Packet m ns) (Packet n ms) p q e =
     cc (port.0, nibbles)
 
 -- the text of a test tells all but that
-pub same_test_text : (m n : ℕ) (ss ts : List ℕ) (t u : Test) → m < 2 ^ 32 → n < 2 ^ 32 → All (λ s. s < 2 ^ 32) ss → All (λ s. s < 2 ^ 32) ts → TestFits t → TestFits u
-    → test_text m ss t ≡ test_text n ts u → SameTest m n ss ts t u
-same_test_text m n ss ts t u h k p q a b e =
+pub same_test_text : (f g : Program) (m n : ℕ) (ss ts : List ℕ) (t u : Test) → m < 2 ^ 32 → n < 2 ^ 32 → All (λ s. s < 2 ^ 32) ss → All (λ s. s < 2 ^ 32) ts → TestFits t → TestFits u
+    → test_text f m ss t ≡ test_text g n ts u → SameTest m n ss ts t u
+same_test_text f g m n ss ts t u h k p q a b e =
     let title = same_title m n ss ts _ _ h k (recursion_from_All (λ s. s < 2 ^ 32) ss p) (recursion_from_All (λ s. s < 2 ^ 32) ts q) e in
     let packet = same_packet t.input u.input _ _ a.port b.port
     (recursion_from_All (λ c. c < 256) t.input.packet a.packet) (recursion_from_All (λ c. c < 256) u.input.packet b.packet) title.2 in
     record { number = title.0; credits = title.1; input = packet.0; expected = same_expected t.expected u.expected t.printable u.printable packet.1 }
 
 -- behind one title the input and what is expected are told
-pub same_behind_title : (number : ℕ) (statements : List ℕ) (t u : Test) → TestFits t → TestFits u → test_text number statements t ≡ test_text number statements u
+pub same_behind_title : (f g : Program) (number : ℕ) (statements : List ℕ) (t u : Test) → TestFits t → TestFits u → test_text f number statements t ≡ test_text g number statements u
     → (t.input ≡ u.input) × (shown_expected t.expected ≡ shown_expected u.expected)
-same_behind_title number statements t u a b e =
+same_behind_title f g number statements t u a b e =
     let packet = same_packet t.input u.input _ _ a.port b.port
     (recursion_from_All (λ c. c < 256) t.input.packet a.packet) (recursion_from_All (λ c. c < 256) u.input.packet b.packet)
     (append_left_injective (title_line number statements) _ _ e) in

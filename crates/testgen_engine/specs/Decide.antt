@@ -9,6 +9,7 @@ use Rattle.testgen_engine.specs.declared.decide.Decided.{Decided}
 use Rattle.p4_program.specs.declared.program.Statement.{Statement}
 use Rattle.p4_program.specs.declared.program.StatementKind.{StatementKind}
 use Rattle.p4_program.specs.declared.program.StatementKind.TheVariants.{AssignEgressSpec, MarkToDrop}
+use Rattle.p4_program.specs.declared.v1model.TheConstants.{DROP_PORT}
 use Rattle.p4_meaning.specs.declared.test.Expected.{Expected}
 use Rattle.p4_meaning.specs.declared.test.Expected.TheVariants.{Drop, Packet}
 use Rattle.p4_meaning.specs.declared.test.Nibble.TheVariants.{Fixed}
@@ -17,7 +18,7 @@ use Rattle.p4_meaning.specs.Expected.{digits_of}
 -- what a statement gives to egress_spec
 abbrev pub egress_of : StatementKind → ℕ
 egress_of (AssignEgressSpec value) = value
-egress_of MarkToDrop = 511
+egress_of MarkToDrop = DROP_PORT
 
 -- what egress_spec holds after statements
 abbrev pub egress_after : ℕ → List Statement → ℕ
@@ -26,7 +27,7 @@ egress_after value (statement ∷ statements) = egress_after (egress_of statemen
 
 -- what is expected where ingress leaves this egress_spec: the packet as it came in, or none
 abbrev pub expected_at : ℕ → List ℕ → Expected
-expected_at value packet = if value == 511 then Drop else Packet value (map Fixed (digits_of packet))
+expected_at value packet = if value == DROP_PORT then Drop else Packet value (map Fixed (digits_of packet))
 
 -- the test of the opening input, with what its runs give
 pub record IsOpening (p : Program) (b : Bounds) (t : Test) : Type 0 where

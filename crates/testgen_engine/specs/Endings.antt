@@ -1,109 +1,108 @@
--- How a call of the generator may end: its status, and the text that it adds to each output.
-use Rattle.std.specs.Prelude.{◌≡◌, ◌↔◌, ◌⊎◌, ℕ, List, ◌++◌, Option, None, Some, take}
+-- How a call of the generator may end: what it read, and what it added to the outputs.
+use Rattle.std.specs.Prelude.{◌≡◌, ◌↔◌, ◌⊎◌, ℕ, Bool, true, IsTrue, List, [], ◌++◌, Some, IsSomeAnd}
 use Rattle.tg_base.specs.Faults.{Rose}
+use Rattle.tg_base.specs.Moment.{Moment, KeepsReading}
 use Rattle.tg_base.specs.declared.desk.Out.{Out}
 use Rattle.tg_base.specs.declared.desk.Out.TheVariants.{Notes}
-use Rattle.tg_base.specs.declared.place.Code.TheVariants.{NotBuilt}
 use Rattle.tg_base.specs.declared.place.Refusal.{Refusal}
+use Rattle.p4_program.specs.declared.bounds.Bounds.{Bounds}
 use Rattle.p4_program.specs.declared.program.Program.{Program}
-use Rattle.p4_program.specs.Bounds.{IsDefault}
-use Rattle.testgen_engine.specs.Findings.{Findings, AreRight, IsUndecided, text_of}
+use Rattle.testgen_engine.specs.declared.status.TheConstants.{DONE, WRONG_WORDS, REFUSED, UNDECIDED, READ_FAULT, OUT_OF_MEMORY}
+use Rattle.testgen_engine.specs.Findings.{Findings, AreRight, IsUndecided, IsRightPrefix, text_of}
 use Rattle.testgen_engine.specs.Notes.{usage_note, read_fault_note, refusal_note}
-use Rattle.testgen_engine.specs.Outputs.{AddsNothing, AddsTextFront, only}
-use Rattle.testgen_engine.specs.Skeleton.{StandsFor, IsNotBuilt}
+use Rattle.testgen_engine.specs.Outputs.{Adds, ArePrefixes, only}
+use Rattle.testgen_engine.specs.Skeleton.{StandsFor, IsRefused}
+use Rattle.testgen_engine.specs.Source.{HasRead, FailsReading}
 use Rattle.testgen_engine.specs.Words.{AsksGen, AsksNothing}
 
--- where the desk tells its files, the file of this name has these bytes
-abbrev pub HasFile : Option (List ℕ → Option (List ℕ)) → List ℕ → List ℕ → Type 0
-HasFile None name bytes = Unit {0}
-HasFile (Some files) name bytes = files name ≡ Some bytes
-
--- The texts are those of what was found of this program under the default bounds, which is right, and of which
--- nothing is undecided.
-pub record IsFound (p : Program) (text : Out → List ℕ) : Type 0 where
-  pub findings : Findings
-  pub program : findings.program ≡ p
-  pub bounds : IsDefault findings.bounds
-  pub right : AreRight findings
-  pub decided : IsUndecided findings → ⊥
-  pub texts : (out : Out) → text out ≡ text_of findings out
-
--- The headline. The words ask for tests of a source, the named file's bytes stand for the program of what was
--- found, what was found is right, and each output has its text added. Status 3 says that something is
--- undecided.
-pub record Finishes (files : Option (List ℕ → Option (List ℕ))) (words : List (List ℕ)) (status : ℕ) (text : Out → List ℕ) : Type 0 where
-  pub ended : (status ≡ 0) ⊎ (status ≡ 3)
+-- the source that the words ask for was read to its end, and stands for this program
+pub record ReadsProgram (before after : Moment) (words : List (List ℕ)) (b : Bounds) (p : Program) : Type 0 where
   pub name : List ℕ
-  pub asks : AsksGen words name
+  pub asks : AsksGen words name b
   pub bytes : List ℕ
-  pub source : HasFile files name bytes
-  pub findings : Findings
-  pub bounds : IsDefault findings.bounds
-  pub program : StandsFor bytes findings.program
-  pub right : AreRight findings
-  pub undecided : (status ≡ 3) ↔ IsUndecided findings
-  pub texts : (out : Out) → text out ≡ text_of findings out
+  pub read : HasRead before after name bytes true
+  pub program : StandsFor bytes p
 
--- the words ask for nothing, and the usage is told
-pub record Misspells (words : List (List ℕ)) (status : ℕ) (text : Out → List ℕ) : Type 0 where
-  pub ended : status ≡ 1
+-- The source that the words ask for was read, and is refused: where its end was not met, however it goes on.
+pub record ReadsRefused (before after : Moment) (words : List (List ℕ)) (refusal : Refusal) : Type 0 where
+  pub name : List ℕ
+  pub bounds : Bounds
+  pub asks : AsksGen words name bounds
+  pub bytes : List ℕ
+  pub ended : Bool
+  pub read : HasRead before after name bytes ended
+  pub refused : (rest : List ℕ) → (IsTrue ended → rest ≡ []) → IsRefused (bytes ++ rest) refusal
+
+-- an open or a read of the source that the words ask for failed, and the desk has counted it
+pub record MeetsFault (before after : Moment) (words : List (List ℕ)) : Type 0 where
+  pub name : List ℕ
+  pub bounds : Bounds
+  pub asks : AsksGen words name bounds
+  pub read : FailsReading before after name
+  pub rose : Rose before.read_faults after.read_faults
+
+-- The headline. The source that the words ask for stands for the program of what was found, what was found is right,
+-- and its texts, no more, were added to the outputs.
+pub record Finishes (before after : Moment) (words : List (List ℕ)) (status : ℕ) : Type 0 where
+  pub ended : (status ≡ DONE) ⊎ (status ≡ UNDECIDED)
+  pub findings : Findings
+  pub source : ReadsProgram before after words findings.bounds findings.program
+  pub right : AreRight findings
+  pub undecided : (status ≡ UNDECIDED) ↔ IsUndecided findings
+  pub texts : Adds before after (text_of findings)
+
+-- the words ask for nothing, nothing is read, and the usage is told
+pub record Misspells (before after : Moment) (words : List (List ℕ)) (status : ℕ) : Type 0 where
+  pub ended : status ≡ WRONG_WORDS
   pub asks : AsksNothing words
-  pub texts : (out : Out) → text out ≡ only Notes usage_note out
+  pub stays : KeepsReading before after
+  pub texts : Adds before after (only Notes usage_note)
 
--- where a source that is not built is refused
-abbrev pub not_built : Refusal
-not_built = record { code = NotBuilt; line = 1; column = 1 }
+-- the source is refused, and the refusal is told
+pub record Refuses (before after : Moment) (words : List (List ℕ)) (status : ℕ) : Type 0 where
+  pub ended : status ≡ REFUSED
+  pub refusal : Refusal
+  pub source : ReadsRefused before after words refusal
+  pub texts : Adds before after (only Notes (refusal_note refusal))
 
--- the named file's bytes are a source of no program, and the refusal is told
-pub record Refuses (files : Option (List ℕ → Option (List ℕ))) (words : List (List ℕ)) (status : ℕ) (text : Out → List ℕ) : Type 0 where
-  pub ended : status ≡ 2
-  pub name : List ℕ
-  pub asks : AsksGen words name
-  pub bytes : List ℕ
-  pub source : HasFile files name bytes
-  pub refused : IsNotBuilt bytes
-  pub texts : (out : Out) → text out ≡ only Notes (refusal_note not_built) out
+-- the source could not be read, and that is told
+pub record FailsToRead (before after : Moment) (words : List (List ℕ)) (status : ℕ) : Type 0 where
+  pub ended : status ≡ READ_FAULT
+  pub source : MeetsFault before after words
+  pub texts : Adds before after (only Notes read_fault_note)
 
--- an open or a read failed, as the desk has counted between these moments, and that is told
-pub record FailsToRead (words : List (List ℕ)) (before now : ℕ) (status : ℕ) (text : Out → List ℕ) : Type 0 where
-  pub ended : status ≡ 4
-  pub name : List ℕ
-  pub asks : AsksGen words name
-  pub rose : Rose before now
-  pub texts : (out : Out) → text out ≡ only Notes read_fault_note out
+-- What the outputs may have taken of a call that is cut short: nothing, or prefixes of what the words and what was
+-- read allow.
+pub data MayTake (before after : Moment) (words : List (List ℕ)) (taken : Out → List ℕ) : Type 0 where
+  nothing : ((out : Out) → taken out ≡ []) → MayTake before after words taken
+  usage : AsksNothing words → ArePrefixes taken (only Notes usage_note) → MayTake before after words taken
+  note : (refusal : Refusal) → ReadsRefused before after words refusal → ArePrefixes taken (only Notes (refusal_note refusal)) → MayTake before after words taken
+  fault : MeetsFault before after words → ArePrefixes taken (only Notes read_fault_note) → MayTake before after words taken
+  findings : (b : Bounds) (p : Program) → ReadsProgram before after words b p → IsRightPrefix p b taken → MayTake before after words taken
 
--- a call that no write fault or want of memory cuts short ends in one of these ways
-abbrev pub Ends : Option (List ℕ → Option (List ℕ)) → List (List ℕ) → ℕ → ℕ → ℕ → (Out → List ℕ) → Type 0
-Ends files words before now status text =
-    Finishes files words status text ⊎ (Misspells words status text
-    ⊎ (Refuses files words status text ⊎ FailsToRead words before now status text))
+-- a call that a write fault or want of memory has cut short
+pub record IsCutShort (before after : Moment) (words : List (List ℕ)) : Type 0 where
+  pub taken : Out → List ℕ
+  pub adds : Adds before after taken
+  pub allowed : MayTake before after words taken
 
--- some such end, with its status
-abbrev pub EndsSomehow : Option (List ℕ → Option (List ℕ)) → List (List ℕ) → ℕ → ℕ → (Out → List ℕ) → Type 0
-EndsSomehow files words before now text = (status : ℕ) × Ends files words before now status text
+-- the file of this name has these bytes: the desk tells so, or they were moved out of it up to its end
+abbrev pub HasSource : Moment → Moment → List ℕ → List ℕ → Type 0
+HasSource before after name bytes = IsSomeAnd before.files (λ files. files name ≡ Some bytes) ⊎ HasRead before after name bytes true
 
--- a call that is cut short has added nothing, or fronts of the texts of some such end
-abbrev pub IsCutShort : Option (List ℕ → Option (List ℕ)) → List (List ℕ) → ℕ → ℕ → (Out → Option (List ℕ)) → (Out → Option (List ℕ)) → Type 0
-IsCutShort files words before now old new = AddsNothing old new ⊎ AddsTextFront old new (EndsSomehow files words before now)
+-- no fault was counted
+pub record CountsNoFault (before after : Moment) : Type 0 where
+  pub reads : Rose before.read_faults after.read_faults → ⊥
+  pub writes : Rose before.write_faults after.write_faults → ⊥
 
--- the names asked for are those of before, and then a front of these
-abbrev pub AsksFront : Option (List (List ℕ)) → Option (List (List ℕ)) → List (List ℕ) → Type 0
-AsksFront None new names = Unit {0}
-AsksFront (Some old) new names = (count : ℕ) × (new ≡ Some (old ++ take count names))
+-- Completeness. Without a fault, a source that stands for a program is finished, unless memory runs out.
+abbrev pub Completes : Moment → Moment → List (List ℕ) → ℕ → Type 0
+Completes before after words status = (name bytes : List ℕ) (b : Bounds) (p : Program) → AsksGen words name b
+    → HasSource before after name bytes → StandsFor bytes p → CountsNoFault before after
+    → (status ≡ DONE) ⊎ ((status ≡ UNDECIDED) ⊎ (status ≡ OUT_OF_MEMORY))
 
--- Completeness. Where the words ask for tests of a source, the desk tells that the file is there and a source of a
--- program, and no count of faults rose, the call finishes, or wants memory.
-abbrev pub Completes : Option (List ℕ → Option (List ℕ)) → List (List ℕ) → ℕ → ℕ → ℕ → ℕ → ℕ → Type 0
-Completes None words reads_before reads_now writes_before writes_now status = Unit {0}
-Completes (Some files) words reads_before reads_now writes_before writes_now status =
-    (name bytes : List ℕ) (p : Program) → AsksGen words name → files name ≡ Some bytes → StandsFor bytes p
-    → (Rose reads_before reads_now → ⊥) → (Rose writes_before writes_now → ⊥)
-    → (status ≡ 0) ⊎ ((status ≡ 3) ⊎ (status ≡ 6))
-
--- And where the file is a source of no program, the call refuses it, or wants memory.
-abbrev pub RefusesWhole : Option (List ℕ → Option (List ℕ)) → List (List ℕ) → ℕ → ℕ → ℕ → ℕ → ℕ → Type 0
-RefusesWhole None words reads_before reads_now writes_before writes_now status = Unit {0}
-RefusesWhole (Some files) words reads_before reads_now writes_before writes_now status =
-    (name bytes : List ℕ) → AsksGen words name → files name ≡ Some bytes → IsNotBuilt bytes
-    → (Rose reads_before reads_now → ⊥) → (Rose writes_before writes_now → ⊥)
-    → (status ≡ 2) ⊎ (status ≡ 6)
+-- And a source that is refused is told so.
+abbrev pub RefusesWhole : Moment → Moment → List (List ℕ) → ℕ → Type 0
+RefusesWhole before after words status = (name bytes : List ℕ) (b : Bounds) (refusal : Refusal) → AsksGen words name b
+    → HasSource before after name bytes → IsRefused bytes refusal → CountsNoFault before after
+    → (status ≡ REFUSED) ⊎ (status ≡ OUT_OF_MEMORY)

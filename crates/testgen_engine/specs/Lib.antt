@@ -1,7 +1,7 @@
 pub mod Decide
+pub mod Ended
 pub mod Endings
 pub mod Findings
-pub mod Keeps
 pub mod Lines
 pub mod Log
 pub mod Notes

@@ -1,11 +1,13 @@
 -- What stands at the front of a text: a number, the line of a statement, or the lines of statements and the
--- skeleton's end.
+-- skeleton's end; and the sources that are such lines behind the skeleton's head.
 use Rattle.std.specs.Prelude.{◌≡◌, ℕ, ◌<◌, ◌≤◌, List, ◌++◌, length, slice_index}
 use Rattle.std.specs.Char.{is_ascii_digit}
 use Rattle.std.specs.Fmt.{decimal}
 use Rattle.std.specs.List.{flat_map, prefix_len, AllByRecursion}
 use Rattle.p4_program.specs.declared.program.StatementKind.{StatementKind}
-use Rattle.testgen_engine.specs.Skeleton.{tail_text, line_text, FitsNineBits}
+use Rattle.p4_program.specs.declared.v1model.TheConstants.{PORT_END}
+use Rattle.testgen_engine.specs.declared.skeleton.TheConstants.{MOST_STATEMENTS}
+use Rattle.testgen_engine.specs.Skeleton.{tail_text, line_text, source_text, FitsNineBits}
 
 -- the text does not begin with a digit
 abbrev pub StartsNoDigit : List ℕ → Type 0
@@ -19,7 +21,7 @@ pub record IsPlain (digits : List ℕ) : Type 0 where
 
 -- a number of nine bits stands at the front, and then this, which does not go on with a digit
 pub record IsNumberAt (text : List ℕ) (value : ℕ) (rest : List ℕ) : Type 0 where
-  pub nine_bits : value < 512
+  pub nine_bits : value < PORT_END
   pub whole : text ≡ decimal value ++ rest
   pub ends : StartsNoDigit rest
 
@@ -41,3 +43,9 @@ pub record IsBody (text : List ℕ) (kinds : List StatementKind) : Type 0 where
 
 abbrev pub IsNoBody : List ℕ → Type 0
 IsNoBody text = (kinds : List StatementKind) → IsBody text kinds → ⊥
+
+-- the bytes are the source with these statements
+pub record IsSourceOf (bytes : List ℕ) (kinds : List StatementKind) : Type 0 where
+  pub few : length kinds ≤ MOST_STATEMENTS
+  pub fit : AllByRecursion FitsNineBits kinds
+  pub text : bytes ≡ source_text kinds

@@ -6,7 +6,7 @@ use Rattle.std.specs.List.{concat}
 use Rattle.tg_base.specs.declared.place.Span.{Span}
 use Rattle.p4_program.specs.declared.bounds.Bounds.{Bounds}
 use Rattle.p4_program.specs.declared.program.Program.{Program}
-use Rattle.p4_program.specs.declared.program.Statement.{Statement}
+use Rattle.p4_program.specs.Blocks.{places_of}
 use Rattle.p4_meaning.specs.declared.test.Expected.{Expected}
 use Rattle.p4_meaning.specs.declared.test.Expected.TheVariants.{Drop, Packet}
 use Rattle.p4_meaning.specs.declared.test.Nibble.{Nibble}
@@ -27,12 +27,12 @@ abbrev pub statement_line : ℕ → Span → Verdict → List ℕ
 statement_line number place verdict = concat (decimal number ∷ codes " " ∷ decimal place.line ∷ codes ":"
     ∷ decimal place.column ∷ codes " " ∷ verdict_text verdict ∷ codes "\n" ∷ [])
 
--- the lines of statements and their verdicts, the first statement having this number
-abbrev pub statement_lines : ℕ → List Statement → List Verdict → List ℕ
+-- the lines of statements at these places and of their verdicts, the first statement having this number
+abbrev pub statement_lines : ℕ → List Span → List Verdict → List ℕ
 statement_lines number [] verdicts = []
-statement_lines number (statement ∷ statements) [] = []
-statement_lines number (statement ∷ statements) (verdict ∷ verdicts) =
-    statement_line number statement.place verdict ++ statement_lines (suc number) statements verdicts
+statement_lines number (place ∷ places) [] = []
+statement_lines number (place ∷ places) (verdict ∷ verdicts) =
+    statement_line number place verdict ++ statement_lines (suc number) places verdicts
 
 abbrev pub is_undecided_nibble : Nibble → Bool
 is_undecided_nibble nibble.Undecided = true
@@ -105,4 +105,4 @@ counts_line n = verdict_counts n ++ test_counts n
 
 abbrev pub report_text : Bounds → Program → List Verdict → List Test → List ℕ
 report_text b p verdicts tests =
-    bounds_line b ++ (statement_lines 1 p.statements verdicts ++ (undecided_lines 1 tests ++ counts_line (counts_of verdicts tests)))
+    bounds_line b ++ (statement_lines 1 (places_of p) verdicts ++ (undecided_lines 1 tests ++ counts_line (counts_of verdicts tests)))

@@ -7,6 +7,10 @@ use Rattle.p4_program.specs.declared.program.Program.{Program}
 use Rattle.p4_program.specs.declared.program.Statement.{Statement}
 use Rattle.p4_program.specs.declared.program.StatementKind.{StatementKind}
 use Rattle.p4_program.specs.declared.program.StatementKind.TheVariants.{AssignEgressSpec, MarkToDrop}
+use Rattle.p4_program.specs.declared.v1model.TheConstants.{PORT_END}
+use Rattle.tg_base.specs.declared.place.Code.TheVariants.{NotBuilt}
+use Rattle.tg_base.specs.declared.place.Refusal.{Refusal}
+use Rattle.testgen_engine.specs.declared.skeleton.TheConstants.{COLUMN, FIRST_LINE, MOST_STATEMENTS}
 
 -- the lines before the statements
 unfoldable pub head_text : List ℕ
@@ -33,26 +37,36 @@ line_text MarkToDrop = drop_text
 
 -- a constant fits the nine bits of egress_spec
 abbrev pub FitsNineBits : StatementKind → Type 0
-FitsNineBits (AssignEgressSpec value) = value < 512
+FitsNineBits (AssignEgressSpec value) = value < PORT_END
 FitsNineBits MarkToDrop = Unit {0}
 
 -- the source with these statements
 abbrev pub source_text : List StatementKind → List ℕ
 source_text kinds = head_text ++ (flat_map line_text kinds ++ tail_text)
 
--- the statements, one on each line from this one on, each behind four blanks
-abbrev pub placed_from : ℕ → List StatementKind → List Statement
-placed_from line [] = []
-placed_from line (kind ∷ kinds) = record { place = record { line = line; column = 5 }; kind = kind } ∷ placed_from (suc line) kinds
+-- the statements with their numbers, the first of them having this one, and one on each line from this one on
+abbrev pub placed_from : ℕ → ℕ → List StatementKind → List Statement
+placed_from number line [] = []
+placed_from number line (kind ∷ kinds) =
+    record { number = number; place = record { line = line; column = COLUMN }; kind = kind } ∷ placed_from (suc number) (suc line) kinds
 
--- The bytes are a source of this program: the skeleton with at most sixteen statements from line 11 on.
+-- The bytes are a source of this program: the skeleton with at most sixteen statements from its eleventh line on.
 pub record StandsFor (bytes : List ℕ) (p : Program) : Type 0 where
   pub kinds : List StatementKind
-  pub few : length kinds ≤ 16
+  pub few : length kinds ≤ MOST_STATEMENTS
   pub fit : AllByRecursion FitsNineBits kinds
   pub text : bytes ≡ source_text kinds
-  pub statements : p.statements ≡ placed_from 11 kinds
+  pub statements : p.statements ≡ placed_from 1 FIRST_LINE kinds
 
 -- the bytes are a source of no program that is built
 abbrev pub IsNotBuilt : List ℕ → Type 0
 IsNotBuilt bytes = (p : Program) → StandsFor bytes p → ⊥
+
+-- how such bytes are refused: at their first place
+abbrev pub not_built : Refusal
+not_built = record { code = NotBuilt; line = 1; column = 1 }
+
+-- The bytes are refused so.
+pub record IsRefused (bytes : List ℕ) (refusal : Refusal) : Type 0 where
+  pub no_program : IsNotBuilt bytes
+  pub told : refusal ≡ not_built

@@ -1,33 +1,44 @@
--- Reading a file from its start to its end, in pieces.
-use Rattle.std.specs.Prelude.{◌≡◌, ℕ, ◌≤◌, Bool, false, List, [], ◌++◌, Option, None, Some, IfSome, take, drop}
+-- Reading a source: which name was asked for, and what was moved out of its file.
+use Rattle.std.specs.Prelude.{◌≡◌, ℕ, ◌≤◌, ◌⊎◌, Bool, true, false, IsTrue, List, [], ◌∷◌, ◌++◌, length}
+use Rattle.tg_base.specs.declared.desk.DeskFault.{DeskFault}
+use Rattle.tg_base.specs.declared.desk.DeskFault.TheVariants.{Failed, Memory}
+use Rattle.tg_base.specs.Moment.{Moment}
+use Rattle.testgen_engine.specs.declared.source.TheConstants.{MOST_BYTES}
 
--- what was left before is what was read since, and then what is left now
-abbrev pub MovesOn : Option (List ℕ) → List ℕ → Option (List ℕ) → List ℕ → Type 0
-MovesOn None read left now = Unit {0}
-MovesOn (Some rest) read left now = (piece : List ℕ) × (tail : List ℕ) × (rest ≡ piece ++ tail) × (left ≡ Some tail) × (now ≡ read ++ piece)
+-- The name was asked for and its file opened, no other, and these bytes were moved out of it. Where its end was met,
+-- the desk is no longer readable.
+pub record HasRead (before after : Moment) (name moved : List ℕ) (ended : Bool) : Type 0 where
+  pub asked : after.asked ≡ before.asked ++ name ∷ []
+  pub opened : after.opened ≡ before.opened ++ record { name = name; moved = moved; ended = ended } ∷ []
+  pub few : length moved ≤ MOST_BYTES
+  pub met : IsTrue ended → after.readable ≡ false
 
--- where the desk tells, nothing is left
-abbrev pub AtEnd : Option (List ℕ) → Type 0
-AtEnd None = Unit {0}
-AtEnd (Some rest) = rest ≡ []
+-- the file of this name was read to its end, or as far as bytes are taken of a source
+pub record ReadsSource (before after : Moment) (name bytes : List ℕ) : Type 0 where
+  pub ended : Bool
+  pub read : HasRead before after name bytes ended
+  pub whole : (ended ≡ true) ⊎ (length bytes ≡ MOST_BYTES)
 
--- where the desk tells, these bytes are what was left, or its first bytes where more than this number were left
-abbrev pub IsFront : ℕ → Option (List ℕ) → List ℕ → Type 0
-IsFront most None bytes = Unit {0}
-IsFront most (Some rest) bytes = bytes ≡ take most rest
+-- the name was asked for, no other, and nothing was opened
+pub record OpensNothing (before after : Moment) (name : List ℕ) : Type 0 where
+  pub asked : after.asked ≡ before.asked ++ name ∷ []
+  pub opened : after.opened ≡ before.opened
 
--- where the desk tells, at most this many bytes were taken of what was left
-abbrev pub TakesFront : ℕ → Option (List ℕ) → Option (List ℕ) → Type 0
-TakesFront most None left = Unit {0}
-TakesFront most (Some rest) left = (count : ℕ) × (count ≤ most) × (left ≡ Some (drop count rest))
+-- the name was asked for, no other, and its file did not open or its end was not met
+abbrev pub FailsReading : Moment → Moment → List ℕ → Type 0
+FailsReading before after name = OpensNothing before after name ⊎ ((moved : List ℕ) × HasRead before after name moved false)
 
--- where the desk tells its files, the one of this name is open, and at most this many bytes were taken of it
-abbrev pub TakesAtMost : ℕ → Option (List ℕ → Option (List ℕ)) → List ℕ → Option (List ℕ) → Type 0
-TakesAtMost most None name left = Unit {0}
-TakesAtMost most (Some files) name left =
-    (bytes : List ℕ) × (count : ℕ) × (files name ≡ Some bytes) × (count ≤ most) × (left ≡ Some (drop count bytes))
+-- nothing was asked for and nothing opened
+pub record AsksNoName (before after : Moment) : Type 0 where
+  pub asked : after.asked ≡ before.asked
+  pub opened : after.opened ≡ before.opened
 
--- the open file was read to its end: it is no longer readable, and where the desk told of it, nothing is left
-pub record IsReadWhole {T : Type 0} (told : Option T) (left : Option (List ℕ)) (readable : Bool) : Type 0 where
-  pub met : readable ≡ false
-  pub nothing_left : IfSome told (λ _. left ≡ Some [])
+-- no name but this one was asked for, at most once, and no other file opened
+abbrev pub ReadsOnly : Moment → Moment → List ℕ → Type 0
+ReadsOnly before after name = AsksNoName before after
+    ⊎ (OpensNothing before after name ⊎ ((moved : List ℕ) × (ended : Bool) × HasRead before after name moved ended))
+
+-- what a reading that stopped at a fault has done
+abbrev pub StopsReading : Moment → Moment → List ℕ → DeskFault → Type 0
+StopsReading before after name Failed = FailsReading before after name
+StopsReading before after name Memory = ReadsOnly before after name

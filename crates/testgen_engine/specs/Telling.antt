@@ -1,7 +1,7 @@
 -- What the texts of the outputs tell of what was found.
 use Rattle.std.specs.Prelude.{◌≡◌, ℕ, ◌^◌, ◌<◌, List, [], ◌∷◌, length, map, All, if◌then◌else◌}
 use Prim.Native.Nat.{suc}
-use Rattle.p4_program.specs.declared.program.Statement.{Statement}
+use Rattle.p4_program.specs.Blocks.{places_of}
 use Rattle.p4_meaning.specs.declared.test.Expected.{Expected}
 use Rattle.p4_meaning.specs.declared.test.Expected.TheVariants.{Drop, Packet}
 use Rattle.p4_meaning.specs.declared.test.Nibble.{Nibble}
@@ -13,14 +13,10 @@ use Rattle.tg_base.specs.declared.place.Span.{Span}
 use Rattle.testgen_engine.specs.Findings.{Findings}
 use Rattle.testgen_engine.specs.Report.{is_undecided_nibble, nibbles_of}
 
--- the place of a statement
-abbrev pub place_of : Statement → Span
-place_of statement = statement.place
-
 -- the line and the column have 32 bits
-pub record PlaceFits (statement : Statement) : Type 0 where
-  pub line : statement.place.line < 2 ^ 32
-  pub column : statement.place.column < 2 ^ 32
+pub record PlaceFits (place : Span) : Type 0 where
+  pub line : place.line < 2 ^ 32
+  pub column : place.column < 2 ^ 32
 
 -- the number of a test has 32 bits
 abbrev pub VerdictFits : Verdict → Type 0
@@ -35,10 +31,10 @@ pub record TestFits (t : Test) : Type 0 where
   pub packet : All (λ byte. byte < 256) t.input.packet
   pub nibbles : length (nibbles_of t.expected) < 2 ^ 64
 
--- There is one verdict a statement, each number is in the range of its type, and the tests can be counted in 64 bits.
+-- There is one verdict for each place, each number is in the range of its type, and the tests can be counted in 64 bits.
 pub record FindingsFit (f : Findings) : Type 0 where
-  pub one_each : length f.verdicts ≡ length f.program.statements
-  pub places : All PlaceFits f.program.statements
+  pub one_each : length f.verdicts ≡ length (places_of f.program)
+  pub places : All PlaceFits (places_of f.program)
   pub verdicts : All VerdictFits f.verdicts
   pub tests : All TestFits f.tests
   pub count : length f.tests < 2 ^ 64
@@ -67,7 +63,7 @@ shown_expected (Packet port nibbles) = Packet port (map shown_nibble nibbles)
 -- what a report tells of two findings is the same
 pub record SameReport (f g : Findings) : Type 0 where
   pub bounds : f.bounds ≡ g.bounds
-  pub places : map place_of f.program.statements ≡ map place_of g.program.statements
+  pub places : places_of f.program ≡ places_of g.program
   pub verdicts : f.verdicts ≡ g.verdicts
   pub count : length f.tests ≡ length g.tests
   pub undecided : map undecided_places f.tests ≡ map undecided_places g.tests
@@ -82,7 +78,7 @@ pub record SameTest (m n : ℕ) (ss ts : List ℕ) (t u : Test) : Type 0 where
 -- what all outputs tell of two findings is the same: all but what the statements of the program do
 pub record SameFindings (f g : Findings) : Type 0 where
   pub bounds : f.bounds ≡ g.bounds
-  pub places : map place_of f.program.statements ≡ map place_of g.program.statements
+  pub places : places_of f.program ≡ places_of g.program
   pub verdicts : f.verdicts ≡ g.verdicts
   pub tests : f.tests ≡ g.tests
   pub log : f.log ≡ g.log

@@ -4,6 +4,7 @@ use Rattle.std.specs.Fmt.{decimal, digit_glyph}
 use Rattle.std.specs.List.{concat, flat_map}
 use Rattle.hex.specs.Hex.{encode_lower}
 use Rattle.p4_program.specs.declared.input.Input.{Input}
+use Rattle.p4_program.specs.declared.program.Program.{Program}
 use Rattle.p4_meaning.specs.declared.test.Expected.{Expected}
 use Rattle.p4_meaning.specs.declared.test.Expected.TheVariants.{Drop, Packet}
 use Rattle.p4_meaning.specs.declared.test.Nibble.{Nibble}
@@ -32,10 +33,12 @@ abbrev pub expect_line : Expected → List ℕ
 expect_line Drop = []
 expect_line (Packet port nibbles) = concat (codes "expect " ∷ decimal port ∷ codes " " ∷ map glyph_of nibbles ∷ codes "$\n" ∷ [])
 
-abbrev pub test_text : ℕ → List ℕ → Test → List ℕ
-test_text number statements t = title_line number statements ++ (packet_line t.input ++ expect_line t.expected)
+-- The text of a test of the program, with its number and its credits. No table takes entries yet, so it names nothing of
+-- the program.
+abbrev pub test_text : Program → ℕ → List ℕ → Test → List ℕ
+test_text p number statements t = title_line number statements ++ (packet_line t.input ++ expect_line t.expected)
 
 -- the text of the test of this number, where there is one
-abbrev pub text_of_test : List Verdict → ℕ → Option Test → List ℕ
-text_of_test verdicts number None = []
-text_of_test verdicts number (Some t) = test_text number (credits verdicts number) t
+abbrev pub text_of_test : Program → List Verdict → ℕ → Option Test → List ℕ
+text_of_test p verdicts number None = []
+text_of_test p verdicts number (Some t) = test_text p number (credits verdicts number) t

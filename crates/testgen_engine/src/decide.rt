@@ -9,12 +9,11 @@ ghost use Rattle.testgen_engine.specs.Decide.{egress_after, expected_at, IsOpeni
 ghost use Rattle.testgen_engine.specs.Findings.{AreRight, IsUndecided};
 
 use p4_meaning::{Expected, Nibble, Nibbles, Test, Verdict};
-use p4_program::{Bounds, EgressSpec, Input, Program, Statement, StatementKind};
+use p4_program::{
+    Bounds, DROP_PORT, EgressSpec, Input, OPENING_BYTES, Program, Statement, StatementKind,
+};
 use sqlite_items::Items;
 use std::alloc::{AllocError, Global};
-
-/// The most bytes of the opening input's packet: those of an Ethernet header.
-const OPENING_BYTES: u16 = 14;
 
 /// What `egress_spec` holds after statements that start with a value of 0.
 fn egress_after(statements: &[Statement]) -> EgressSpec
@@ -24,7 +23,7 @@ fn egress_after(statements: &[Statement]) -> EgressSpec
     for statement in statements {
         egress = match statement.kind {
             StatementKind::AssignEgressSpec(value) => value,
-            StatementKind::MarkToDrop => EgressSpec::new(EgressSpec::DROP),
+            StatementKind::MarkToDrop => EgressSpec::new(DROP_PORT),
         };
     }
     egress
@@ -48,7 +47,7 @@ fn expected_at(alloc: Global, egress: EgressSpec, packet: &[u8]) -> Result<Expec
     ensures printable { IfOk result (λ expected. IsTrue (is_printable expected)) }
 {
     let port = egress.value();
-    if port == EgressSpec::DROP {
+    if port == DROP_PORT {
         return Ok(Expected::Drop);
     }
     let nibbles = fixed_nibbles(alloc, packet)?;

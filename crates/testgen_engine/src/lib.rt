@@ -22,89 +22,77 @@ mod print;
 mod report;
 mod skeleton;
 mod source;
+mod status;
 mod test_text;
 mod words;
 
-ghost use Rattle.std.specs.Prelude.{◌≡◌, ◌≤◌, ◌⊎◌, ℕ, List, [], ◌∷◌, map, string_bytes};
+ghost use Rattle.std.specs.Prelude.{◌≡◌, ◌≢◌, ◌≤◌, ◌⊎◌, ℕ, List, map, string_bytes};
 ghost use Rattle.tg_base.specs.Faults.{Rose};
-ghost use Rattle.testgen_engine.specs.Endings.{Finishes, Misspells, Refuses, FailsToRead, IsCutShort, AsksFront, Completes, RefusesWhole};
-ghost use Rattle.testgen_engine.specs.Outputs.{AddsText};
-ghost use Rattle.testgen_engine.specs.Source.{IsReadWhole, TakesAtMost};
+ghost use Rattle.tg_base.specs.Moment.{KeepsReading};
+ghost use Rattle.p4_program.specs.declared.bounds.Bounds.{Bounds};
+ghost use Rattle.testgen_engine.specs.Endings.{Finishes, Misspells, Refuses, FailsToRead, IsCutShort, Completes, RefusesWhole};
+ghost use Rattle.testgen_engine.specs.Source.{ReadsOnly};
 ghost use Rattle.testgen_engine.specs.Words.{AsksGen, AsksNothing};
 
-use generate::{Status, run};
+use generate::run;
+pub use status::{DONE, OUT_OF_MEMORY, READ_FAULT, REFUSED, UNDECIDED, WRITE_FAULT, WRONG_WORDS};
 use std::alloc::Global;
 use tg_base::{Desk, DeskFault};
 
 /// Does the job that the words ask for, and answers the status of the process.
 ///
-/// The words are those of the command line without the program's name. Statuses: 0 all done, 1 wrong
-/// words, 2 the source is refused, 3 something is undecided, 4 the source could not be read, 5 an
-/// output could not be written, 6 want of memory. Where a desk does not tell what it holds, the
-/// clauses claim the texts and the statuses, and not that the desk holds the texts.
-#[tactic(auto, using(crate::proofs::EndLemmas::whole_ends))]
+/// The words are those of the command line without the program's name. The clauses compare the
+/// desk's moment before the call with that behind it.
 pub fn testgen<D: Desk>(alloc: Global, words: &[String], desk: &mut D) -> u8
-    ensures statuses { result ≤ 6 }
+    ensures statuses { result ≤ OUT_OF_MEMORY }
 
     // The headline: what is printed is right.
-    ensures headline { (result ≡ 0) ⊎ (result ≡ 3)
-        → AddsText (D.written desk.old) (D.written desk.new)
-        (Finishes (D.files desk.old) (map string_bytes words.now) result) }
+    ensures headline { (result ≡ DONE) ⊎ (result ≡ UNDECIDED)
+        → Finishes (D.moment desk.old) (D.moment desk.new) (map string_bytes words.now) result }
 
-    // Wrong words are told, and nothing is opened.
-    ensures wrong_words { result ≡ 1
-        → AddsText (D.written desk.old) (D.written desk.new)
-        (Misspells (map string_bytes words.now) result) }
+    // Wrong words are told, and nothing is read.
+    ensures wrong_words { result ≡ WRONG_WORDS
+        → Misspells (D.moment desk.old) (D.moment desk.new) (map string_bytes words.now) result }
     ensures only_wrong_words { AsksNothing (map string_bytes words.now)
-        → (result ≡ 1) ⊎ (5 ≤ result) }
+        → (result ≡ WRONG_WORDS) ⊎ ((result ≡ WRITE_FAULT) ⊎ (result ≡ OUT_OF_MEMORY)) }
     ensures nothing_opened { AsksNothing (map string_bytes words.now)
-        → D.asked desk.new ≡ D.asked desk.old }
+        → KeepsReading (D.moment desk.old) (D.moment desk.new) }
 
-    // A refusal is told, and nothing else is written.
-    ensures refused { result ≡ 2
-        → AddsText (D.written desk.old) (D.written desk.new)
-        (Refuses (D.files desk.old) (map string_bytes words.now) result) }
+    // A refusal is told, and nothing else.
+    ensures refused { result ≡ REFUSED
+        → Refuses (D.moment desk.old) (D.moment desk.new) (map string_bytes words.now) result }
 
-    // A fault comes only where the desk has counted it in this call.
-    ensures read_fault { result ≡ 4
-        → AddsText (D.written desk.old) (D.written desk.new)
-        (FailsToRead (map string_bytes words.now) (D.read_faults desk.old)
-        (D.read_faults desk.new) result) }
-    ensures write_fault { result ≡ 5 → Rose (D.write_faults desk.old) (D.write_faults desk.new) }
+    // A fault comes only where the desk has counted it in this call, and ends the call.
+    ensures read_fault { result ≡ READ_FAULT
+        → FailsToRead (D.moment desk.old) (D.moment desk.new) (map string_bytes words.now) result }
+    ensures write_fault { result ≡ WRITE_FAULT
+        → Rose (D.moment desk.old).write_faults (D.moment desk.new).write_faults }
+    ensures read_faults_stay { result ≢ READ_FAULT → result ≢ WRITE_FAULT → result ≢ OUT_OF_MEMORY
+        → (D.moment desk.new).read_faults ≡ (D.moment desk.old).read_faults }
+    ensures write_faults_stay { result ≢ WRITE_FAULT
+        → (D.moment desk.new).write_faults ≡ (D.moment desk.old).write_faults }
 
-    // What a call that is cut short has written is a front of what is right.
-    ensures cut_short { 5 ≤ result
-        → IsCutShort (D.files desk.old) (map string_bytes words.now)
-        (D.read_faults desk.old) (D.read_faults desk.new) (D.written desk.old) (D.written desk.new) }
+    // What a call that is cut short has written is right so far.
+    ensures cut_short { (result ≡ WRITE_FAULT) ⊎ (result ≡ OUT_OF_MEMORY)
+        → IsCutShort (D.moment desk.old) (D.moment desk.new) (map string_bytes words.now) }
 
-    // What is finished was read to its end. At most 262,145 bytes are taken of any source, and none of
-    // one that could not be opened.
-    ensures read_whole { (result ≡ 0) ⊎ (result ≡ 3)
-        → IsReadWhole (D.files desk.old) (D.rest desk.new) (D.readable desk.new) }
-    ensures taken { (name : List ℕ) → AsksGen (map string_bytes words.now) name
-        → TakesAtMost 262145 (D.files desk.old) name (D.rest desk.new)
-        ⊎ ((4 ≤ result) × (D.rest desk.new ≡ D.rest desk.old)) }
-    ensures nothing_taken { AsksNothing (map string_bytes words.now)
-        → D.rest desk.new ≡ D.rest desk.old }
+    // However a call ends, it reads no file but the one that the words name.
+    ensures reads { (name : List ℕ) (bounds : Bounds)
+        → AsksGen (map string_bytes words.now) name bounds
+        → ReadsOnly (D.moment desk.old) (D.moment desk.new) name }
 
-    // No other name is asked for.
-    ensures asked { (name : List ℕ) → AsksGen (map string_bytes words.now) name
-        → AsksFront (D.asked desk.old) (D.asked desk.new) (name ∷ []) }
+    // Without a fault a source that stands for a program is finished, and one that is refused is
+    // told so.
+    ensures completes { Completes (D.moment desk.old) (D.moment desk.new)
+        (map string_bytes words.now) result }
+    ensures refuses { RefusesWhole (D.moment desk.old) (D.moment desk.new)
+        (map string_bytes words.now) result }
 
-    // Without a fault a source that is built is finished, and any other is refused.
-    ensures completes { Completes (D.files desk.old) (map string_bytes words.now)
-        (D.read_faults desk.old) (D.read_faults desk.new) (D.write_faults desk.old)
-        (D.write_faults desk.new) result }
-    ensures refuses { RefusesWhole (D.files desk.old) (map string_bytes words.now)
-        (D.read_faults desk.old) (D.read_faults desk.new) (D.write_faults desk.old)
-        (D.write_faults desk.new) result }
-
-    ensures files_stay { D.files desk.new ≡ D.files desk.old }
+    ensures files_stay { (D.moment desk.new).files ≡ (D.moment desk.old).files }
 {
-    let status = match run(alloc, words, desk) {
-        Ok(status) => status,
-        Err(DeskFault::Failed) => Status::WriteFault,
-        Err(DeskFault::Memory) => Status::OutOfMemory,
-    };
-    status.number()
+    match run(alloc, words, desk) {
+        Ok(status) => status.number(),
+        Err(DeskFault::Failed) => WRITE_FAULT,
+        Err(DeskFault::Memory) => OUT_OF_MEMORY,
+    }
 }

@@ -1,6 +1,8 @@
 //! The report: the bounds, a line for each statement, a line for each undecided nibble, and the
 //! counts.
-ghost use Rattle.std.specs.Prelude.{◌≡◌, ◌++◌, OnOk, IfOk, length, count_by, string_bytes};
+ghost use Rattle.std.specs.Prelude.{◌≡◌, ◌++◌, OnOk, IfOk, length, map, count_by, string_bytes};
+ghost use Rattle.p4_program.specs.Blocks.{place_of, places_of};
+ghost use Rattle.p4_program.specs.Numbered.{number_of, numbers_from};
 ghost use Rattle.testgen_engine.specs.Report.{bounds_line, statement_line, statement_lines, is_undecided_nibble, nibble_line, nibble_lines, nibbles_of, undecided_lines, undecided_nibbles, is_covered, is_unreachable, is_unsteady, is_undecided, counts_of, verdict_counts, test_counts, counts_line, report_text};
 
 use p4_meaning::{Expected, Nibble, Test, Verdict};
@@ -39,7 +41,7 @@ fn push_bounds(text: &mut String, bounds: Bounds) -> Result<(), AllocError>
 /// Adds the line of a statement.
 fn push_statement(
     text: &mut String,
-    number: usize,
+    number: u32,
     place: Span,
     verdict: Verdict,
 ) -> Result<(), AllocError>
@@ -58,18 +60,19 @@ fn push_nibble(text: &mut String, test: usize, place: usize) -> Result<(), Alloc
     writeln!(text, "test {test} nibble {place} undecided")
 }
 
-/// Adds the lines of statements and their verdicts.
+/// Adds the lines of numbered statements and their verdicts.
 fn push_statements(
     text: &mut String,
     statements: &[Statement],
     verdicts: &[Verdict],
 ) -> Result<(), AllocError>
-    requires { length statements.now ≡ length verdicts.now }
-    ensures { OnOk result
-        (string_bytes text.new ≡ string_bytes text.old ++ statement_lines 1 statements.now verdicts.now) }
+    requires numbers { map number_of statements.now ≡ numbers_from 1 (length statements.now) }
+    requires verdicts { length statements.now ≡ length verdicts.now }
+    ensures { OnOk result (string_bytes text.new
+        ≡ string_bytes text.old ++ statement_lines 1 (map place_of statements.now) verdicts.now) }
 {
     for (index, statement) in statements.iter().enumerate() {
-        push_statement(text, index + 1, statement.place, verdicts[index])?;
+        push_statement(text, statement.number, statement.place, verdicts[index])?;
     }
     Ok(())
 }
@@ -212,7 +215,7 @@ pub fn write_report(
     verdicts: &[Verdict],
     tests: &[Test],
 ) -> Result<String, AllocError>
-    requires { length verdicts.now ≡ length program.now.statements }
+    requires { length verdicts.now ≡ length (places_of program.now) }
     ensures { IfOk result
         (λ text. string_bytes text ≡ report_text bounds program.now verdicts.now tests.now) }
 {

@@ -1,15 +1,15 @@
 //! The program of a source that is built: the skeleton with statements of two forms.
-ghost use Rattle.std.specs.Prelude.{◌≡◌, ◌≢◌, ◌+◌, ◌*◌, ◌≤◌, ◌<◌, ℕ, List, ◌++◌, length, take_while, IfOk, IfSome, IsTrue, ◌↔◌, MatchOption};
+ghost use Rattle.std.specs.Prelude.{◌≡◌, ◌≢◌, ◌+◌, ◌*◌, ◌≤◌, ◌<◌, ℕ, List, ◌++◌, length, take_while, IfOk, IfSome, IsTrue, ◌↔◌, MatchOption, MatchResult};
 ghost use Rattle.std.specs.Char.{is_ascii_digit};
 ghost use Rattle.std.specs.List.{take_while, prefix_len};
 ghost use Rattle.std.specs.Str.Parse.{digits_value, AllDigits};
-ghost use Rattle.testgen_engine.specs.Skeleton.{head_text, tail_text, assign_text, drop_text, end_text, placed_from, StandsFor, IsNotBuilt};
-ghost use Rattle.testgen_engine.specs.Lines.{IsPlain, IsNumberAt, IsNoNumber, IsLineAt, IsNoLine, IsBody, IsNoBody};
+ghost use Rattle.testgen_engine.specs.Skeleton.{head_text, tail_text, assign_text, drop_text, end_text, placed_from, StandsFor, IsNotBuilt, IsRefused};
+ghost use Rattle.testgen_engine.specs.Lines.{IsPlain, IsNumberAt, IsNoNumber, IsLineAt, IsNoLine, IsBody, IsNoBody, IsSourceOf};
 
-use p4_program::{EgressSpec, Program, Statement, StatementKind};
+use p4_program::{EgressSpec, PORT_END, Program, Statement, StatementKind};
 use sqlite_items::Items;
 use std::alloc::{AllocError, Global};
-use tg_base::Span;
+use tg_base::{Code, Refusal, Span};
 
 /// The most statements of a source that is built.
 const MOST_STATEMENTS: usize = 16;
@@ -105,7 +105,7 @@ fn leading_number(text: &[u8]) -> Option<(u16, &[u8])>
         return None;
     }
     let value = value_of(digits);
-    if value < EgressSpec::END {
+    if value < PORT_END {
         Some((value, rest))
     } else {
         None
@@ -150,29 +150,40 @@ fn kinds_of(alloc: Global, body: &[u8]) -> Result<Option<Items<StatementKind>>, 
     Ok(if rest == tail() { Some(kinds) } else { None })
 }
 
-/// Statements at their places, one on each line.
+/// Statements with their numbers, one on each line.
 fn placed(alloc: Global, kinds: &[StatementKind]) -> Result<Items<Statement>, AllocError>
-    requires { length kinds.now ≤ 16 }
-    ensures { IfOk result (λ statements. statements ≡ placed_from 11 kinds.now) }
+    requires { length kinds.now ≤ MOST_STATEMENTS }
+    ensures { IfOk result (λ statements. statements ≡ placed_from 1 FIRST_LINE kinds.now) }
 {
     let mut statements = Items::new(alloc);
-    let mut line = FIRST_LINE;
+    let mut number = 1;
     for kind in kinds {
         let place = Span {
-            line,
+            line: FIRST_LINE + number - 1,
             column: COLUMN,
         };
-        statements.push(Statement { place, kind: *kind })?;
-        line += 1;
+        let kind = *kind;
+        statements.push(Statement {
+            number,
+            place,
+            kind,
+        })?;
+        number += 1;
     }
     Ok(statements)
 }
 
-/// The program of a source, where it is built.
-pub fn program_of(alloc: Global, source: &[u8]) -> Result<Option<Program>, AllocError>
-    ensures { IfOk result
-        (λ found. MatchOption found (IsNotBuilt source.now)
-        (λ program. StandsFor source.now program)) }
+/// Whether there are more statements than a source that is built has.
+fn are_many(kinds: &[StatementKind]) -> bool
+    ensures { IsTrue result ↔ MOST_STATEMENTS < length kinds.now }
+{
+    kinds.len() > MOST_STATEMENTS
+}
+
+/// What the statements of a source do, where it is built.
+fn source_kinds(alloc: Global, source: &[u8]) -> Result<Option<Items<StatementKind>>, AllocError>
+    ensures { IfOk result (λ found. MatchOption found (IsNotBuilt source.now)
+        (λ kinds. IsSourceOf source.now kinds)) }
 {
     let Some(body) = after(source, head()) else {
         return Ok(None);
@@ -180,9 +191,27 @@ pub fn program_of(alloc: Global, source: &[u8]) -> Result<Option<Program>, Alloc
     let Some(kinds) = kinds_of(alloc, body)? else {
         return Ok(None);
     };
-    if kinds.len() > MOST_STATEMENTS {
+    if are_many(kinds.as_slice()) {
         return Ok(None);
     }
+    Ok(Some(kinds))
+}
+
+/// A program, or why its source is refused.
+pub type Built = Result<Program, Refusal>;
+
+/// The program of a source, where it is built.
+pub fn program_of(alloc: Global, source: &[u8]) -> Result<Built, AllocError>
+    ensures { IfOk result (λ built. MatchResult built
+        (λ program. StandsFor source.now program) (λ refusal. IsRefused source.now refusal)) }
+{
+    let Some(kinds) = source_kinds(alloc, source)? else {
+        return Ok(Err(Refusal {
+            code: Code::NotBuilt,
+            line: 1,
+            column: 1,
+        }));
+    };
     let statements = placed(alloc, kinds.as_slice())?;
-    Ok(Some(Program { statements }))
+    Ok(Ok(Program { statements }))
 }

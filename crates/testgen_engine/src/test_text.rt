@@ -4,7 +4,7 @@ ghost use Rattle.p4_meaning.specs.Expected.{is_digit, is_printable};
 ghost use Rattle.testgen_engine.specs.TestText.{title_line, packet_line, glyph_of, expect_line, test_text};
 
 use p4_meaning::{Expected, Nibble, Test};
-use p4_program::Input;
+use p4_program::{Input, Program};
 use std::alloc::{AllocError, Global};
 
 /// Adds the line with the number of a test and the statements that it is credited with.
@@ -55,14 +55,16 @@ fn push_expected(text: &mut String, expected: &Expected) -> Result<(), AllocErro
     text.push_str("$\n")
 }
 
-/// The text of a test, with its number and the statements that it is credited with.
+/// The text of a test of the program, with its number and the statements that it is credited with.
 pub fn write_test(
     alloc: Global,
+    _program: &Program,
     number: u32,
     statements: &[u32],
     test: &Test,
 ) -> Result<String, AllocError>
-    ensures { IfOk result (λ text. string_bytes text ≡ test_text number statements.now test.now) }
+    ensures { IfOk result
+        (λ text. string_bytes text ≡ test_text _program.now number statements.now test.now) }
 {
     let mut text = String::new(alloc);
     push_title(&mut text, number, statements)?;

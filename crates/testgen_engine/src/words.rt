@@ -2,6 +2,17 @@
 ghost use Rattle.std.specs.Prelude.{◌↔◌, IsTrue, MatchOption, map, string_bytes};
 ghost use Rattle.testgen_engine.specs.Words.{IsName, AsksGen, AsksNothing};
 
+use p4_program::Bounds;
+use std::default::Default;
+
+/// A job of `gen`.
+#[derive(Clone, Copy, Debug)]
+pub struct Job<'a> {
+    /// The name of the source.
+    pub name: &'a str,
+    pub bounds: Bounds,
+}
+
 /// Whether a word can name a file.
 fn is_name(word: &str) -> bool
     ensures { IsTrue result ↔ IsName word.now }
@@ -9,13 +20,16 @@ fn is_name(word: &str) -> bool
     !word.is_empty() && !word.starts_with("--")
 }
 
-/// The name of the source for which the words ask for tests, where they do.
-pub fn source_name(words: &[String]) -> Option<&str>
+/// The job that the words ask for, where they do.
+pub fn job_of(words: &[String]) -> Option<Job<'_>>
     ensures { MatchOption result (AsksNothing (map string_bytes words.now))
-        (λ name. AsksGen (map string_bytes words.now) name.now) }
+        (λ job. AsksGen (map string_bytes words.now) job.name.now job.bounds) }
 {
     match words {
-        [verb, name] if verb.as_str() == "gen" && is_name(name.as_str()) => Some(name.as_str()),
+        [verb, name] if verb.as_str() == "gen" && is_name(name.as_str()) => Some(Job {
+            name: name.as_str(),
+            bounds: Bounds::default(),
+        }),
         _ => None,
     }
 }

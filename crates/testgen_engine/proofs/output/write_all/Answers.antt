@@ -1,20 +1,23 @@
-use Rattle.std.proofs.Common.{◌++◌, take, append_assoc, ap, sym, ◌∙◌, arith, rules}
-use Rattle.testgen_engine.proofs.Lists.{take-rest}
-use Rattle.testgen_engine.proofs.OutputLemmas.{adds_more}
+use Rattle.std.proofs.Common.{◌++◌, append_assoc, ap, sym, ◌∙◌, rules}
+use Rattle.testgen_engine.proofs.OutputLemmas.{adds_more, writes_prefix}
 use Rattle.testgen_engine.proofs.output.write_all.Goals as goal
 
 pub loop-rest-preserved : goal.loop-rest-preserved
 loop-rest-preserved g c =
     let kept = c.loop-rest.invariant in
-    let front = kept.front.0 in
-    let piece = take c.in_ok-count.count c.loop-rest.rest.now in
-    let whole = ap (λ ys. front ++ ys) (sym (take-rest c.loop-rest.rest.now c.in_ok-count.count c.in_ok-count.ensures.some.1)) in
+    let prefix = kept.prefix.0 in
+    let taken = c.in_ok-rest.ensures.piece in
     record {
-      front = (
-        front ++ piece,
-        kept.front.1 ∙ whole ∙ sym (append_assoc front piece _),
-        adds_more _ _ _ c.args.out front piece kept.front.2 c.in_ok-count.ensures.appended c.write.ensures.others_stay,
+      prefix = (
+        prefix ++ taken.piece,
+        kept.prefix.1 ∙ ap (λ xs. prefix ++ xs) taken.whole ∙ sym (append_assoc prefix taken.piece _),
+        adds_more _ _ _ c.args.out prefix taken.piece kept.prefix.2 taken.adds,
       );
-      count = omega arith;
+      faults = search rules;
       stays = search rules;
     }
+
+pub returns-in_err-rest-clause-writes : goal.returns-in_err-rest-clause-writes
+returns-in_err-rest-clause-writes g c =
+    let kept = c.loop-rest.invariant in
+    writes_prefix _ _ _ c.args.out kept.prefix.0 _ _ c.from_residual.result c.from_residual.ensures.0 kept.prefix.2 c.in_err-rest.ensures.piece kept.prefix.1

@@ -1,8 +1,8 @@
-use Rattle.std.proofs.Common.{◌≡◌, ℕ, ◌+◌, [], ◌∷◌, ◌++◌, take, length, ap, sym, ◌∙◌, arith, length-take}
+use Rattle.std.proofs.Common.{◌≡◌, ◌+◌, ◌-◌, [], ◌∷◌, ◌++◌, take, length, ap, sym, ◌∙◌, arith, length-take}
 use Rattle.std.proofs.lemmas.List.{take_more}
-use Rattle.p4_program.specs.declared.program.Statement.{Statement}
+use Rattle.testgen_engine.specs.declared.skeleton.TheConstants.{FIRST_LINE}
 use Rattle.testgen_engine.specs.Skeleton.{placed_from}
-use Rattle.testgen_engine.proofs.LineLemmas.{placed_from-push}
+use Rattle.testgen_engine.proofs.LineLemmas.{placed_at, placed_push}
 use Rattle.testgen_engine.proofs.skeleton.placed.Goals as goal
 
 pub loop-kind-preserved : goal.loop-kind-preserved
@@ -12,10 +12,11 @@ loop-kind-preserved c =
     let kept = c.loop-kind.invariant in
     let kind = c.kind-item.result in
     let more = take_more kinds i kind c.loop-kind-test.true ∙ ap (λ k. take i kinds ++ k ∷ []) (sym c.kind-item.is) in
-    let item : ℕ → Statement = λ line. record { place = record { line = line; column = 5 }; kind = kind } in
-    let line : c.loop-kind.line ≡ 11 + length (take i kinds) = omega (arith, length-take i kinds) in
+    let front = length-take i kinds in
+    let number : c.loop-kind.number ≡ 1 + length (take i kinds) = omega arith in
+    let line : FIRST_LINE + c.loop-kind.number - 1 ≡ FIRST_LINE + length (take i kinds) = omega arith in
     record {
-      done = c.in_ok-push.ensures.ok ∙ ap (λ n. c.loop-kind.statements ++ item n ∷ []) line ∙ ap (λ xs. xs ++ item (11 + length (take i kinds)) ∷ []) kept.done
-          ∙ sym (placed_from-push 11 (take i kinds) kind) ∙ ap (placed_from 11) (sym more);
-      line = omega arith;
+      done = c.in_ok-push.ensures.ok ∙ (λ j. c.loop-kind.statements ++ placed_at (number j) (line j) kind ∷ []) ∙ ap (λ xs. xs ++ placed_at (1 + length (take i kinds)) (FIRST_LINE + length (take i kinds)) kind ∷ []) kept.done
+          ∙ sym (placed_push 1 FIRST_LINE (take i kinds) kind) ∙ ap (placed_from 1 FIRST_LINE) (sym more);
+      number = omega arith;
     }

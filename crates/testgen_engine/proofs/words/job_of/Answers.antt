@@ -2,7 +2,7 @@ use Rattle.std.proofs.Common.{map, string_bytes, [], ◌∷◌, ap, sym, ◌∙�
 use Rattle.std.proofs.lemmas.Slice.Eq.{bytes_eq-Decides}
 use Rattle.testgen_engine.specs.Words.{IsName}
 use Rattle.testgen_engine.proofs.Lists.{two_items}
-use Rattle.testgen_engine.proofs.words.source_name.Goals as goal
+use Rattle.testgen_engine.proofs.words.job_of.Goals as goal
 
 pub returns-in-len2 : goal.returns-in-len2
 returns-in-len2 c =
@@ -14,4 +14,5 @@ returns-in-len2 c =
     record {
       said = ap (map string_bytes) two ∙ cc;
       named = subst IsName name (c.is_name.ensures.0 c.if-is_name.true);
+      bounds = c.default.ensures;
     }
