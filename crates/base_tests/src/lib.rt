@@ -1,0 +1,5 @@
+//! Tests alone, of crates that others stand on: a module for each crate under test, over its public calls.
+#![tactic(auto)]
+
+#[cfg(test)]
+mod desks;
