@@ -5,7 +5,7 @@ use Rattle.std.specs.Str.{bytes_eq}
 use Rattle.std.specs.String.{string_bytes}
 use Rattle.std.proofs.lemmas.Map.Text.{btree_set_updates_text}
 use Rattle.std.proofs.lemmas.Slice.Eq.{bytes_eq-Decides}
-use Rattle.testgen_program.proofs.made_files.MadeFiles.open.Goals as goal
+use Rattle.testgen_program.proofs.made_files.MadeFiles.make.Goals as goal
 
 fails : (b : Bool) (P : Type 0) → (b ≡ true → P) → (P → ⊥) → b ≡ false
 fails true P holds denied = absurd (denied (holds refl))
