@@ -16,10 +16,11 @@ name_of other = codes "testgen.proofs"
 abbrev pub is_made : BTreeSet (String Global) → List ℕ → Bool
 is_made names name = contains_text names name
 
--- what a file holds, where it tells, ends with these bytes
-pub record EndsWith (contents : Option (List ℕ)) (bytes : List ℕ) : Type 0 where
-  pub before : Option (List ℕ)
-  pub ends : Appends before contents bytes
+-- A file has gained these bytes since it was opened: there is a file as it was before, and this one holds, where that is
+-- told, what it held and then the bytes.
+pub record HasGained {F : Type 0} (contents : F → Option (List ℕ)) (now : F) (bytes : List ℕ) : Type 0 where
+  pub before : F
+  pub added : Appends (contents before) (contents now) bytes
 
 -- the output goes to a file of its own
 abbrev pub has_own_file : Out → Bool

@@ -7,7 +7,7 @@ ghost use Rattle.tg_base.specs.Moment.{KeepsReading, KeepsWriting, just_opened, 
 ghost use Rattle.tg_base.specs.declared.desk.Out.{Out};
 ghost use Rattle.std.specs.Io.KnownBytes.{WriteAppends, Consumes};
 ghost use Rattle.testgen_program.specs.History.{moment_at, has_file, untold};
-ghost use Rattle.testgen_program.specs.Made.{has_own_file, EndsWith};
+ghost use Rattle.testgen_program.specs.Made.{has_own_file, HasGained};
 ghost use Rattle.testgen_program.specs.Streams.{Reaches, MovesOut};
 
 #[cfg(test)]
@@ -70,8 +70,8 @@ impl<R: Files, W: Write, N: Write> FileDesk<R, W, N> {
         ensures notes { Reaches Out.Notes out (N.contents self.old.notes) (N.contents self.new.notes) result piece.now }
         ensures kept { IsTrue (has_own_file out) → OnOk result
             (IsSomeAnd self.new.made.kept (λ now. now.out ≡ out)) }
-        ensures ends { IsTrue (has_own_file out) → IfOk result (λ count. IfSome self.new.made.kept
-            (λ now. EndsWith (R.File.contents now.file) (take count piece.now))) }
+        ensures gained { IsTrue (has_own_file out) → IfOk result (λ count. IfSome self.new.made.kept
+            (λ now. HasGained R.File.contents now.file (take count piece.now))) }
         ensures appended { IsTrue (has_own_file out) → IfSome self.old.made.kept (λ before. before.out ≡ out
             → IsSomeAnd self.new.made.kept (λ now. WriteAppends (R.File.contents before.file)
             (R.File.contents now.file) result piece.now)) }
@@ -176,8 +176,8 @@ impl<R: Files + Drop, W: Write + Drop, N: Write + Drop> Desk for FileDesk<R, W, 
         ensures notes { Reaches Out.Notes out (N.contents self.old.notes) (N.contents self.new.notes) result piece.now }
         ensures kept { IsTrue (has_own_file out) → OnOk result
             (IsSomeAnd self.new.made.kept (λ now. now.out ≡ out)) }
-        ensures ends { IsTrue (has_own_file out) → IfOk result (λ count. IfSome self.new.made.kept
-            (λ now. EndsWith (R.File.contents now.file) (take count piece.now))) }
+        ensures gained { IsTrue (has_own_file out) → IfOk result (λ count. IfSome self.new.made.kept
+            (λ now. HasGained R.File.contents now.file (take count piece.now))) }
         ensures appended { IsTrue (has_own_file out) → IfSome self.old.made.kept (λ before. before.out ≡ out
             → IsSomeAnd self.new.made.kept (λ now. WriteAppends (R.File.contents before.file)
             (R.File.contents now.file) result piece.now)) }

@@ -2,7 +2,7 @@
 ghost use Rattle.std.specs.Prelude.{◌≡◌, ◌≢◌, ◌<◌, ◌≤◌, ℕ, List, false, true, length, take, None, IsSomeAnd, IfSome, Ok, OnOk, IfOk};
 ghost use Rattle.std.specs.Io.KnownBytes.{WriteAppends};
 ghost use Rattle.std.specs.String.{string_bytes};
-ghost use Rattle.testgen_program.specs.Made.{is_made, name_of, EndsWith};
+ghost use Rattle.testgen_program.specs.Made.{is_made, name_of, HasGained};
 ghost use Rattle.tg_base.specs.declared.desk.Out.{Out};
 
 use crate::transfer::write_some;
@@ -51,8 +51,8 @@ impl<R: Files> MadeFiles<R> {
         requires { 0 < length piece.now }
         ensures some { IfOk result (λ count. (0 < count) × (count ≤ length piece.now)) }
         ensures kept { OnOk result (IsSomeAnd self.new.kept (λ now. now.out ≡ out)) }
-        ensures ends { IfOk result (λ count. IfSome self.new.kept
-            (λ now. EndsWith (R.File.contents now.file) (take count piece.now))) }
+        ensures gained { IfOk result (λ count. IfSome self.new.kept
+            (λ now. HasGained R.File.contents now.file (take count piece.now))) }
         ensures appended { IfSome self.old.kept (λ before. before.out ≡ out → IsSomeAnd self.new.kept
             (λ now. WriteAppends (R.File.contents before.file) (R.File.contents now.file) result piece.now)) }
     {
