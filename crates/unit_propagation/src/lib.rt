@@ -1,0 +1,4 @@
+//! Unit propagation with two watched literals for each clause.
+#![tactic(auto)]
+
+mod assignment;
