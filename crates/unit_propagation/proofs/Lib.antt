@@ -1,2 +1,6 @@
 pub mod ApartLemmas
 pub mod AgreesLemmas
+pub mod ListLemmas
+pub mod PairLemmas
+pub mod CountLemmas
+pub mod IndexedLemmas

@@ -1,3 +1,5 @@
 pub mod Units
 pub mod Assigned
 pub mod Fields
+pub mod Watching
+pub mod WatchedFields

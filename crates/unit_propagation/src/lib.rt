@@ -2,3 +2,6 @@
 #![tactic(auto)]
 
 mod assignment;
+mod pair;
+mod watch_lists;
+mod watched_clauses;

@@ -25,7 +25,7 @@ unreachable-requires-in-Err-push c =
     let below = room c.self.inside.values.items c.self.inside.trail.items c.args.l c.self.invariant.agrees (omega arith) is_open in
     omega (arith, c.self.inside.causes.ok.0, c.in-Err-push.ensures.full, c.self.invariant.causes_room, c.self.invariant.same_length)
 
-agrees : (c : goal.In_default_push) → Agrees (set c.self.inside.values.items c.args.l.var c.from.result) c.push.new.self.items
+agrees : (c : goal.In_default-push) → Agrees (set c.self.inside.values.items c.args.l.var c.from.result) c.push.new.self.items
 agrees c =
     let trail = ap (λ (a : Assigned). a.trail) (sym c.self.view_is) in
     let width = ap (λ (a : Assigned). a.width) c.self.view_is in

@@ -29,6 +29,9 @@ loop-self-preserved-in-Some c =
       agrees = agrees_pop values rest l (subst (Agrees values) items inv.agrees);
       trail = sym (take-append-le c.args.place rest (l ∷ []) (omega arith)) ∙ ap (take c.args.place) (sym items) ∙ inv.trail;
       enough = omega (arith, inv.enough);
+      fewer = omega (arith, inv.fewer, size);
+      causes = inv.causes;
+      causes_room = inv.causes_room;
       width = length-set values l.var Open ∙ inv.width;
       room = omega (arith, length-set values l.var Open, inv.room, c.in-Some.ensures.capacity);
     }
@@ -37,12 +40,12 @@ pub invariant_of-self : goal.invariant_of-self
 invariant_of-self c =
     let inv = c.loop-self.invariant in
     let size = length-take c.args.place c.self.inside.causes.items in
-    let same : length c.truncate.new.self.items ≡ min c.args.place (length c.self.inside.causes.items) = ap length c.truncate.ensures.items ∙ size in
+    let same : length c.truncate.new.self.items ≡ min c.args.place (length c.self.inside.causes.items) = ap length c.truncate.ensures.items ∙ ap (λ (cs : List Cause). length (take c.args.place cs)) inv.causes ∙ size in
     record {
       agrees = inv.agrees;
-      same_length = omega (arith, same, c.self.invariant.same_length, inv.enough, c.loop-self-test.false, c.len.ensures);
+      same_length = omega (arith, same, c.self.invariant.same_length, inv.enough, inv.fewer, c.loop-self-test.false, c.len.ensures);
       trail_room = inv.room;
-      causes_room = omega (arith, inv.width, c.self.invariant.causes_room, c.truncate.ensures.capacity);
+      causes_room = omega (arith, inv.width, c.self.invariant.causes_room, inv.causes_room, c.truncate.ensures.capacity);
     }
 
 pub returns-clause-trail : goal.returns-clause-trail
@@ -51,4 +54,4 @@ returns-clause-trail c =
     ∙ c.loop-self.invariant.trail ∙ ap (λ (a : Assigned). take c.args.place a.trail) c.self.view_is
 
 pub returns-clause-causes : goal.returns-clause-causes
-returns-clause-causes c = c.truncate.ensures.items ∙ ap (λ (a : Assigned). take c.args.place a.causes) c.self.view_is
+returns-clause-causes c = c.truncate.ensures.items ∙ ap (take c.args.place) c.loop-self.invariant.causes ∙ ap (λ (a : Assigned). take c.args.place a.causes) c.self.view_is
