@@ -4,3 +4,5 @@ pub mod ListLemmas
 pub mod PairLemmas
 pub mod CountLemmas
 pub mod IndexedLemmas
+pub mod ReadyLemmas
+pub mod TrailLemmas

@@ -18,3 +18,9 @@ pub record IsUnit (assigned clause : List Lit) (l : Lit) : Type 0 where
 -- the variables of the literals are below a number
 abbrev pub IsWithin : ℕ → List Lit → Type 0
 IsWithin width lits = All (λ l. l.var < width) lits
+
+-- a literal of the clause, beside one of them, that is not false
+pub record IsFree (assigned clause : List Lit) (other l : Lit) : Type 0 where
+  pub stands : Contains clause l
+  pub differs : l ≢ other
+  pub not_false : ¬ IsFalse assigned l

@@ -3,5 +3,6 @@
 
 mod assignment;
 mod pair;
+mod propagation;
 mod watch_lists;
 mod watched_clauses;
