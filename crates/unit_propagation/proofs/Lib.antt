@@ -6,3 +6,4 @@ pub mod CountLemmas
 pub mod IndexedLemmas
 pub mod ReadyLemmas
 pub mod TrailLemmas
+pub mod VisitLemmas

@@ -15,11 +15,11 @@ from_not : (b : Bool) → not b ≡ true → b ≡ false
 from_not true e = absurd (cc)
 from_not false e = refl
 
-differ-eq : (k l : Lit) → k ≢ l → lit_eq k l ≡ false
-differ-eq k l differs = elim (cases_Bool (lit_eq k l)) [ inl same ↦ absurd (differs (lit_eq-true k l same)) | inr other ↦ other ]
+pub differ_eq : (k l : Lit) → k ≢ l → lit_eq k l ≡ false
+differ_eq k l differs = elim (cases_Bool (lit_eq k l)) [ inl same ↦ absurd (differs (lit_eq-true k l same)) | inr other ↦ other ]
 
-same-eq : (k l : Lit) → k ≡ l → lit_eq k l ≡ true
-same-eq k l same = ap (λ (x : Lit). lit_eq k x) (sym same) ∙ lit_eq-itself k
+same_eq : (k l : Lit) → k ≡ l → lit_eq k l ≡ true
+same_eq k l same = ap (λ (x : Lit). lit_eq k x) (sym same) ∙ lit_eq-itself k
 
 -- a watched literal is one of two that differ
 pub watches_cases : (p : Pair) (l : Lit) → IsTrue (watches p l) → (p.first ≢ p.second) × ((p.first ≡ l) ⊎ (p.second ≡ l))
@@ -34,11 +34,11 @@ watches_cases p l is =
 
 pub watches_first : (p : Pair) (l : Lit) → p.first ≢ p.second → p.first ≡ l → IsTrue (watches p l)
 watches_first p l differs first = and_from (not (lit_eq p.first p.second)) (lit_eq p.first l || lit_eq p.second l)
-    (not_true (lit_eq p.first p.second) (differ-eq p.first p.second differs)) (or_left (lit_eq p.first l) (lit_eq p.second l) (same-eq p.first l first))
+    (not_true (lit_eq p.first p.second) (differ_eq p.first p.second differs)) (or_left (lit_eq p.first l) (lit_eq p.second l) (same_eq p.first l first))
 
 pub watches_second : (p : Pair) (l : Lit) → p.first ≢ p.second → p.second ≡ l → IsTrue (watches p l)
 watches_second p l differs second = and_from (not (lit_eq p.first p.second)) (lit_eq p.first l || lit_eq p.second l)
-    (not_true (lit_eq p.first p.second) (differ-eq p.first p.second differs)) (or_right (lit_eq p.first l) (lit_eq p.second l) (same-eq p.second l second))
+    (not_true (lit_eq p.first p.second) (differ_eq p.first p.second differs)) (or_right (lit_eq p.first l) (lit_eq p.second l) (same_eq p.second l second))
 
 pub watches_not : (p : Pair) (l : Lit) → (IsTrue (watches p l) → ⊥) → watches p l ≡ false
 watches_not p l none = elim (cases_Bool (watches p l)) [ inl is_so ↦ absurd (none is_so) | inr is_not ↦ is_not ]
@@ -72,7 +72,7 @@ has_contains l (k ∷ ks) h = elim (or_cases (lit_eq k l) (has l ks) h) [
 
 pub contains_has : (l : Lit) (clause : List Lit) → Contains clause l → IsTrue (has l clause)
 contains_has l [] (i, inside, at) = absurd (omega arith)
-contains_has l (k ∷ ks) (zero, inside, at) = or_left (lit_eq k l) (has l ks) (same-eq k l at)
+contains_has l (k ∷ ks) (zero, inside, at) = or_left (lit_eq k l) (has l ks) (same_eq k l at)
 contains_has l (k ∷ ks) (suc i, inside, at) = or_right (lit_eq k l) (has l ks) (contains_has l ks (i, omega arith, at))
 
 code_apart : (a b : Lit) (s t : Bool) → a.positive ≡ s → b.positive ≡ t →

@@ -90,7 +90,8 @@ impl WatchedClauses {
 
     /// Variable numbers are below it.
     pub fn width(&self) -> usize
-        ensures { result ≡ self.now.width }
+        ensures is { result ≡ self.now.width }
+        ensures indexed { IsIndexed self.now.width self.now.clauses self.now.pairs self.now.lists }
     {
         self.width
     }
@@ -125,6 +126,7 @@ impl WatchedClauses {
         requires inside { place < length (list_at self.now.lists l) }
         ensures is { slice_get (list_at self.now.lists l) place ≡ Some result }
         ensures exists { result < length self.now.clauses }
+        ensures paired { length self.now.pairs ≡ length self.now.clauses }
     {
         self.lists[code(l)][place]
     }
