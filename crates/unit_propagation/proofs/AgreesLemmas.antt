@@ -179,3 +179,7 @@ agrees_grow values trail h = record {
   counts =
       let more : count_by is_set (values ++ Open ∷ []) ≡ count_by is_set values + 0 = sum_by_push weight values Open in
       omega arith
+
+-- no literal is on the trail together with its negation
+pub consistent : (values : List Truth) (trail : List Lit) → Agrees values trail → (l : Lit) → Contains trail l → Contains trail (denial l) → ⊥
+consistent values trail h l here there = not_same l.positive (sym (h.holds_trail l here) ∙ h.holds_trail (denial l) there)

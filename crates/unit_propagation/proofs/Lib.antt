@@ -7,3 +7,5 @@ pub mod IndexedLemmas
 pub mod ReadyLemmas
 pub mod TrailLemmas
 pub mod VisitLemmas
+pub mod FixpointLemmas
+pub mod StateLemmas

@@ -28,7 +28,7 @@ any_grows trail more clause (k, x, inside, at, is) = (k, x, inside, at, Contains
 pub loose_grows : (clauses : List (List Lit)) (pairs : List Pair) (trail more : List Lit) → LooseAreTrue clauses pairs trail → LooseAreTrue clauses pairs (trail ++ more)
 loose_grows clauses pairs trail more h c p clause inside same = any_grows trail more (get_or clauses c clause) (h c p clause inside same)
 
-ready_grows : (trail more past : List Lit) (p : Pair) (clause : List Lit) → Ready trail past p clause → Ready (trail ++ more) past p clause
+pub ready_grows : (trail more past : List Lit) (p : Pair) (clause : List Lit) → Ready trail past p clause → Ready (trail ++ more) past p clause
 ready_grows trail more past p clause (inl is) = inl (any_grows trail more clause is)
 ready_grows trail more past p clause (inr free) = inr free
 
@@ -36,7 +36,7 @@ ready_fewer : (trail past fewer : List Lit) (p : Pair) (clause : List Lit) → (
 ready_fewer trail past fewer p clause within (inl is) = inl is
 ready_fewer trail past fewer p clause within (inr (a, b)) = inr ((λ h. a (within (denial p.first) h)), (λ h. b (within (denial p.second) h)))
 
-take_within : (trail : List Lit) (n : ℕ) (x : Lit) → Contains (take n trail) x → Contains trail x
+pub take_within : (trail : List Lit) (n : ℕ) (x : Lit) → Contains (take n trail) x → Contains trail x
 take_within trail n x h = subst (λ (t : List Lit). Contains t x) (take-append-drop n trail) (Contains-append_left (take n trail) (drop n trail) x h)
 
 -- a literal that is denied past the head was denied before, or by the literal at the head
@@ -188,17 +188,18 @@ visiting_stop clauses pairs lists trail head denied place inside visiting c p cl
   more x h = subst (λ (t : List Lit). Contains t x) (sym (take_more trail head x inside)) (Contains-append_left (take head trail) (get_or trail head x ∷ []) x h)
 
 pub keeps_none : (clauses : List (List Lit)) (pairs : List Pair) (trail : List Lit) → KeepsReady clauses pairs pairs trail
-keeps_none clauses pairs trail = record { size = refl; ready = λ part within h. h; loose = λ part h. h }
+keeps_none clauses pairs trail = record { size = refl; ready = λ part within h. h; loose = λ part h. h; pairs = λ c p inside same. same }
 
 pub keeps_then : (clauses : List (List Lit)) (old mid new : List Pair) (trail more : List Lit) → KeepsReady clauses old mid trail → KeepsReady clauses mid new (trail ++ more) → KeepsReady clauses old new trail
 keeps_then clauses old mid new trail more first then = record {
   size = then.size ∙ first.size;
   ready = λ part within h. then.ready part (λ x stands. Contains-append_left trail more x (within x stands)) (first.ready part within h);
   loose = λ part h. then.loose part (first.loose part h);
+  pairs = λ c p inside same. first.pairs c p (let size = then.size in omega arith) (then.pairs c p inside same);
 }
 
 pub keeps_moved : (w new : Watched) (trail : List Lit) (from : Lit) (place : ℕ) → clause_at w from place < length w.pairs → WatchMoved w new trail from place → KeepsReady w.clauses w.pairs new.pairs trail
-keeps_moved w new trail from place exists moved = subst (λ (ps : List Pair). KeepsReady w.clauses w.pairs ps trail) (sym moved.pairs) (record { size = longer; ready = ready; loose = loose }) where
+keeps_moved w new trail from place exists moved = subst (λ (ps : List Pair). KeepsReady w.clauses w.pairs ps trail) (sym moved.pairs) (record { size = longer; ready = ready; loose = loose; pairs = pairs }) where
   c : ℕ
   c = clause_at w from place
 
@@ -227,4 +228,10 @@ keeps_moved w new trail from place exists moved = subst (λ (ps : List Pair). Ke
   loose part h k p clause inside same_pair = elim (cases_eq k c) [
     | inl same ↦ absurd (moved.not_other (sym (subst (λ (pair : Pair). pair.first ≡ pair.second) (here k p same) same_pair)))
     | inr differs ↦ h k p clause (omega (arith, longer)) (subst (λ (pair : Pair). pair.first ≡ pair.second) (get_or-set_other w.pairs c k q p differs) same_pair)
+  ]
+
+  pairs : (k : ℕ) (p : Pair) → k < length (set w.pairs c q) → (get_or (set w.pairs c q) k p).first ≡ (get_or (set w.pairs c q) k p).second → (get_or w.pairs k p).first ≡ (get_or w.pairs k p).second
+  pairs k p inside same_pair = elim (cases_eq k c) [
+    | inl same ↦ absurd (moved.not_other (sym (subst (λ (pair : Pair). pair.first ≡ pair.second) (here k p same) same_pair)))
+    | inr differs ↦ subst (λ (pair : Pair). pair.first ≡ pair.second) (get_or-set_other w.pairs c k q p differs) same_pair
   ]

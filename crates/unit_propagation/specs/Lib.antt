@@ -5,4 +5,7 @@ pub mod Trail
 pub mod Watching
 pub mod WatchedFields
 pub mod Ready
+pub mod Loose
 pub mod Propagated
+pub mod Propagation
+pub mod PropagatorFields

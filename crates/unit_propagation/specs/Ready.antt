@@ -1,11 +1,12 @@
 -- How far clauses were looked at: one has a true literal, or neither of its watched literals was denied so far.
-use Rattle.std.specs.Prelude.{◌≡◌, ◌≢◌, ◌<◌, ◌+◌, ◌⊎◌, ℕ, List, [], false, Any, All, Contains, length, take, drop, slice_set, slice_index_or, swap_remove}
+use Rattle.std.specs.Prelude.{◌≡◌, ◌≢◌, ◌<◌, ◌+◌, ◌⊎◌, ℕ, List, [], true, false, Any, All, Contains, length, take, drop, slice_set, slice_index_or, swap_remove}
 use Rattle.cnf_core.specs.declared.formula.Lit.{Lit}
 use Rattle.unit_propagation.specs.Units.{IsFalse}
 use Rattle.unit_propagation.specs.Assigned.{Assigned}
 use Rattle.unit_propagation.specs.Trail.{Implies}
 use Rattle.unit_propagation.specs.Watching.{Watched, IsOther, pair_of, list_at, watches}
 use Rattle.unit_propagation.specs.declared.pair.Pair.{Pair}
+use Rattle.unit_propagation.specs.declared.assignment.Cause.{Cause}
 use Rattle.unit_propagation.specs.declared.propagation.Seen.{Seen}
 use Rattle.unit_propagation.specs.declared.propagation.Seen.TheVariants.{Kept, Moved, Denied}
 
@@ -28,6 +29,8 @@ pub record KeepsReady (clauses : List (List Lit)) (old new : List Pair) (trail :
   pub size : length new ≡ length old
   pub ready : (part : List Lit) → ((l : Lit) → Contains part l → Contains trail l) → AllReady clauses old part part → AllReady clauses new part part
   pub loose : (part : List Lit) → LooseAreTrue clauses old part → LooseAreTrue clauses new part
+  pub pairs : (c : ℕ) (p : Pair) → c < length new → (slice_index_or new c p).first ≡ (slice_index_or new c p).second →
+      (slice_index_or old c p).first ≡ (slice_index_or old c p).second
 
 -- the clause at a place of the denied literal's list
 abbrev pub clause_at : Watched → Lit → ℕ → ℕ
@@ -57,3 +60,8 @@ IsSeen w new a b from place Kept =
 IsSeen w new a b from place Moved = (b ≡ a) × WatchMoved w new a.trail from place
 IsSeen w new a b from place Denied =
     (new ≡ w) × (b ≡ a) × ((clause : List Lit) → All (IsFalse a.trail) (slice_index_or w.clauses (clause_at w from place) clause))
+
+-- where propagation had ended each clause is ready
+abbrev pub EndsReady : List (List Lit) → List Pair → List Lit → List Cause → Type 0
+EndsReady clauses pairs trail causes =
+    (n : ℕ) (c : Cause) → n < length causes → (slice_index_or causes n c).ended ≡ true → AllReady clauses pairs (take n trail) (take n trail)

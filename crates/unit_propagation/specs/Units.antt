@@ -24,3 +24,7 @@ pub record IsFree (assigned clause : List Lit) (other l : Lit) : Type 0 where
   pub stands : Contains clause l
   pub differs : l ≢ other
   pub not_false : ¬ IsFalse assigned l
+
+-- no literal stands together with its negation
+abbrev pub IsConsistent : List Lit → Type 0
+IsConsistent assigned = (l : Lit) → Contains assigned l → ¬ Contains assigned (denial l)

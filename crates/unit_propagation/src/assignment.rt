@@ -1,8 +1,9 @@
 //! The assignment: the truth of each variable, and the trail of the literals that were set, each with its cause.
 
-ghost use Rattle.std.specs.Prelude.{◌≡◌, ◌<◌, ◌≤◌, ◌++◌, ◌∷◌, [], Some, length, slice_get, take, IfOk, OnOk};
-ghost use Rattle.unit_propagation.specs.Units.{IsOpen};
+ghost use Rattle.std.specs.Prelude.{◌≡◌, ◌<◌, ◌≤◌, ◌++◌, ◌∷◌, [], Some, length, slice_get, take, false, All, OnOk, vec_capacity};
+ghost use Rattle.unit_propagation.specs.Units.{IsOpen, IsConsistent};
 ghost use Rattle.unit_propagation.specs.Assigned.{StandsAs};
+ghost use Rattle.unit_propagation.specs.Trail.{reasons_of};
 
 use cnf_core::Lit;
 use std::alloc::{AllocError, Global};
@@ -103,6 +104,7 @@ impl Assignment {
         ensures count { result ≡ length self.now.trail }
         ensures within { result ≤ self.now.width }
         ensures causes { result ≡ length self.now.causes }
+        ensures consistent { IsConsistent self.now.trail }
     {
         self.trail.len()
     }
@@ -153,5 +155,25 @@ impl Assignment {
             }
         }
         self.causes.truncate(place);
+    }
+
+    /// Forgets where propagation had ended.
+    pub fn forget_ends(&mut self)
+        ensures width { self.new.width ≡ self.old.width }
+        ensures trail { self.new.trail ≡ self.old.trail }
+        ensures reasons { reasons_of self.new.causes ≡ reasons_of self.old.causes }
+        ensures not_ended { All (λ c. c.ended ≡ false) self.new.causes }
+    {
+        forget(&mut self.causes);
+    }
+}
+
+fn forget(causes: &mut Vec<Cause>)
+    ensures reasons { reasons_of causes.new.items ≡ reasons_of causes.old.items }
+    ensures not_ended { All (λ c. c.ended ≡ false) causes.new.items }
+    ensures capacity { vec_capacity causes.new ≡ vec_capacity causes.old }
+{
+    for place in 0..causes.len() {
+        causes[place].ended = false;
     }
 }

@@ -3,9 +3,9 @@
 
 ghost use Rattle.std.specs.Prelude.{◌≡◌, ◌≢◌, ◌<◌, ◌≤◌, ◌+◌, ◌↔◌, All, IsTrue, IfSome, IfNone, length, take};
 
-ghost use Rattle.unit_propagation.specs.Units.{IsFalse, IsFree, IsWithin};
+ghost use Rattle.unit_propagation.specs.Units.{IsFalse, IsFree, IsWithin, IsConsistent};
 ghost use Rattle.unit_propagation.specs.Trail.{Implies};
-ghost use Rattle.unit_propagation.specs.Watching.{list_at};
+ghost use Rattle.unit_propagation.specs.Watching.{list_at, IsIndexed};
 ghost use Rattle.unit_propagation.specs.Ready.{AllReady, LooseAreTrue, KeepsReady, IsSeen};
 ghost use Rattle.unit_propagation.specs.Propagated.{IsFalseClause};
 
@@ -31,6 +31,7 @@ pub fn run(watched: &mut WatchedClauses, row: &mut Assignment, head: &mut usize)
     requires head { head.old ≤ length row.old.trail }
     requires ready { AllReady watched.old.clauses watched.old.pairs row.old.trail (take head.old row.old.trail) }
     requires loose { LooseAreTrue watched.old.clauses watched.old.pairs row.old.trail }
+    requires indexed { IsIndexed watched.old.width watched.old.clauses watched.old.pairs watched.old.lists }
     ensures width { watched.new.width ≡ watched.old.width }
     ensures row_width { row.new.width ≡ row.old.width }
     ensures clauses { watched.new.clauses ≡ watched.old.clauses }
@@ -40,6 +41,9 @@ pub fn run(watched: &mut WatchedClauses, row: &mut Assignment, head: &mut usize)
     ensures head { head.new ≤ length row.new.trail }
     ensures ended { IfNone result (head.new ≡ length row.new.trail) }
     ensures denied { IfSome result (λ c. IsFalseClause watched.old.clauses row.new.trail c) }
+    ensures loose { LooseAreTrue watched.old.clauses watched.new.pairs row.new.trail }
+    ensures indexed { IfNone result (IsIndexed watched.new.width watched.new.clauses watched.new.pairs watched.new.lists) }
+    ensures consistent { IfNone result (IsConsistent row.new.trail) }
 {
     while *head < row.count() {
         if let Some(clause) = visit(watched, row, *head) {
@@ -65,6 +69,8 @@ fn visit(watched: &mut WatchedClauses, row: &mut Assignment, head: usize) -> Opt
     ensures ready { AllReady watched.old.clauses watched.new.pairs row.new.trail (take head row.new.trail) }
     ensures next { IfNone result (AllReady watched.old.clauses watched.new.pairs row.new.trail (take (head + 1) row.new.trail)) }
     ensures denied { IfSome result (λ c. IsFalseClause watched.old.clauses row.new.trail c) }
+    ensures loose { LooseAreTrue watched.old.clauses watched.new.pairs row.new.trail }
+    ensures indexed { IfNone result (IsIndexed watched.new.width watched.new.clauses watched.new.pairs watched.new.lists) }
 {
     let denied = row.nth(head).denied();
     if watched.width() <= denied.var as usize {
@@ -130,7 +136,8 @@ pub fn find_other(clause: &[Lit], other: Lit, row: &Assignment) -> Option<Lit>
     None
 }
 
-fn is_false(row: &Assignment, l: Lit) -> bool
+/// Whether the literal's negation is set.
+pub fn is_false(row: &Assignment, l: Lit) -> bool
     requires { l.var < row.now.width }
     ensures { IsTrue result ↔ IsFalse row.now.trail l }
 {

@@ -1,6 +1,6 @@
 //! Clauses with two watched literals each, and for each literal the list of the clauses that watch it.
 
-ghost use Rattle.std.specs.Prelude.{◌≡◌, ◌<◌, ◌≤◌, ◌^◌, ◌++◌, ◌∷◌, [], All, Some, Contains, IsTrue, OnOk, OnErr, length, slice_get, slice_set, swap_remove};
+ghost use Rattle.std.specs.Prelude.{◌≡◌, ◌<◌, ◌≤◌, ◌^◌, ◌++◌, ◌∷◌, [], ℕ, All, Some, Contains, IsTrue, OnOk, OnErr, length, slice_get, slice_set, swap_remove};
 ghost use Rattle.unit_propagation.specs.Units.{IsWithin};
 ghost use Rattle.cnf_core.specs.declared.formula.Lit.{Lit as Literal};
 ghost use Rattle.unit_propagation.specs.Watching.{watches, list_at, pair_of, IsIndexed, MovesWatch};
@@ -57,6 +57,7 @@ impl WatchedClauses {
         requires { width < 2 ^ 62 }
         ensures grown { OnOk result (width ≤ self.new.width) }
         ensures keeps { self.old.width ≤ self.new.width }
+        ensures most { (n : ℕ) → self.old.width ≤ n → width ≤ n → self.new.width ≤ n }
         ensures clauses { self.new.clauses ≡ self.old.clauses }
         ensures pairs { self.new.pairs ≡ self.old.pairs }
     {
@@ -99,6 +100,7 @@ impl WatchedClauses {
     pub fn clauses(&self) -> &[Clause]
         ensures are { result.now ≡ self.now.clauses }
         ensures within { All (IsWithin self.now.width) result.now }
+        ensures indexed { IsIndexed self.now.width self.now.clauses self.now.pairs self.now.lists }
     {
         self.clauses.as_slice()
     }
@@ -115,7 +117,8 @@ impl WatchedClauses {
     /// How many clauses the literal's list has.
     pub fn count(&self, l: Lit) -> usize
         requires { l.var < self.now.width }
-        ensures { result ≡ length (list_at self.now.lists l) }
+        ensures is { result ≡ length (list_at self.now.lists l) }
+        ensures indexed { IsIndexed self.now.width self.now.clauses self.now.pairs self.now.lists }
     {
         self.lists[code(l)].len()
     }

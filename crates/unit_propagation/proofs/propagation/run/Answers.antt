@@ -21,6 +21,7 @@ loop-head-init c = record {
   ready = c.requires.ready;
   loose = c.requires.loose;
   head = c.requires.head;
+  indexed = c.requires.indexed;
 }
 
 pub visit-requires-clause-ready : goal.visit-requires-clause-ready
@@ -78,5 +79,10 @@ loop-head-preserved c =
       ready = subst (λ (cs : List (List Lit)). AllReady cs c.visit.new.watched.pairs e.trail (take (c.loop-head.head + 1) e.trail)) inv.clauses after.next;
       loose = subst (LooseAreTrue start c.visit.new.watched.pairs) (sym step.trail)
           (loose_grows start c.visit.new.watched.pairs b.trail step.more (there.loose b.trail inv.loose));
-      head = omega (arith, c.loop-head-test.true, c.count.ensures.count);
+      head = omega (arith, size, c.loop-head-test.true, c.count.ensures.count);
+      indexed = after.indexed;
     }
+
+pub returns-in-Some-clause-loose : goal.returns-in-Some-clause-loose
+returns-in-Some-clause-loose c =
+    subst (λ (cs : List (List Lit)). LooseAreTrue cs c.visit.new.watched.pairs c.visit.new.row.trail) c.loop-head.invariant.clauses c.in-Some.ensures.loose

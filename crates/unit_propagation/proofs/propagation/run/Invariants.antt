@@ -1,6 +1,7 @@
 -- The clauses are ready for the literals before the head.
 use Rattle.std.proofs.Common.{◌≡◌, ◌≤◌, ◌-◌, length, take}
 use Rattle.unit_propagation.specs.Trail.{Implies}
+use Rattle.unit_propagation.specs.Watching.{IsIndexed}
 use Rattle.unit_propagation.specs.Ready.{AllReady, LooseAreTrue, KeepsReady}
 use Rattle.unit_propagation.proofs.propagation.run.Given as goal
 
@@ -14,6 +15,7 @@ invariant-loop-head l = record {
   ready : AllReady l.initial.watched.clauses l.watched.pairs l.row.trail (take l.head l.row.trail);
   loose : LooseAreTrue l.initial.watched.clauses l.watched.pairs l.row.trail;
   head : l.head ≤ length l.row.trail;
+  indexed : IsIndexed l.watched.width l.watched.clauses l.watched.pairs l.watched.lists;
 }
 
 abbrev pub decreases-loop-head : goal.decreases-loop-head

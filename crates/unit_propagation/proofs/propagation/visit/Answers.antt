@@ -10,7 +10,7 @@ use Rattle.unit_propagation.specs.Units.{IsFalse}
 use Rattle.unit_propagation.specs.Assigned.{Assigned}
 use Rattle.unit_propagation.specs.Watching.{Watched, list_at}
 use Rattle.unit_propagation.specs.Trail.{Implies}
-use Rattle.unit_propagation.specs.Ready.{AllReady, IsSeen, clause_at}
+use Rattle.unit_propagation.specs.Ready.{AllReady, LooseAreTrue, IsSeen, clause_at}
 use Rattle.unit_propagation.specs.declared.propagation.Seen.TheVariants.{Kept, Moved, Denied}
 use Rattle.unit_propagation.proofs.TrailLemmas.{implies_none}
 use Rattle.unit_propagation.proofs.ReadyLemmas.{Visiting, visiting_start, visiting_none, visiting_end, visiting_stop, keeps_none}
@@ -59,7 +59,7 @@ loop-place-preserved-in-Kept c =
     let l = c.nth.result in
     let same = c.denied-denied.ensures in
     let at = get_or_from_slice_get c.args.row.now.trail c.args.head l l c.nth.ensures.is in
-    let here : c.loop-place.place < length (list_at c.loop-place.watched.lists c.denied-denied.result) = omega (arith, c.loop-place-test.true, c.count.ensures) in
+    let here : c.loop-place.place < length (list_at c.loop-place.watched.lists c.denied-denied.result) = omega (arith, c.loop-place-test.true, c.count.ensures.is) in
     subst (λ (d : Lit). Visited c.args.watched.now c.args.row.now c.args.head d c.step.new.watched c.step.new.row (c.loop-place.place + 1)) (sym same)
     (visited_kept c.args.watched.now c.loop-place.watched c.step.new.watched c.args.row.now c.loop-place.row c.step.new.row c.args.head l c.loop-place.place c.requires.head at
     (subst (λ (d : Lit). c.loop-place.place < length (list_at c.loop-place.watched.lists d)) same here)
@@ -72,7 +72,7 @@ loop-place-preserved c =
     let l = c.nth.result in
     let same = c.denied-denied.ensures in
     let at = get_or_from_slice_get c.args.row.now.trail c.args.head l l c.nth.ensures.is in
-    let here : c.loop-place.place < length (list_at c.loop-place.watched.lists c.denied-denied.result) = omega (arith, c.loop-place-test.true, c.count.ensures) in
+    let here : c.loop-place.place < length (list_at c.loop-place.watched.lists c.denied-denied.result) = omega (arith, c.loop-place-test.true, c.count.ensures.is) in
     let number : clause_at c.loop-place.watched c.denied-denied.result c.loop-place.place ≡ c.nth-clause.result =
     get_or_from_slice_get (list_at c.loop-place.watched.lists c.denied-denied.result) c.loop-place.place c.nth-clause.result 0 c.nth-clause.ensures.is in
     let exists : clause_at c.loop-place.watched c.denied-denied.result c.loop-place.place < length c.loop-place.watched.clauses = omega (arith, number, c.nth-clause.ensures.exists) in
@@ -116,4 +116,14 @@ returns-clause-ready c =
 pub returns-clause-next : goal.returns-clause-next
 returns-clause-next c =
     visiting_end c.args.watched.now.clauses c.loop-place.watched.pairs c.loop-place.watched.lists c.loop-place.row.trail c.args.head c.denied-denied.result c.loop-place.place
-    (omega (arith, c.loop-place-test.false, c.count.ensures)) c.loop-place.invariant.visiting
+    (omega (arith, c.loop-place-test.false, c.count.ensures.is)) c.loop-place.invariant.visiting
+
+pub returns-in-Denied-clause-loose : goal.returns-in-Denied-clause-loose
+returns-in-Denied-clause-loose c =
+    let s = c.in-Denied.ensures.seen in
+    let clauses = c.args.watched.now.clauses in
+    subst (λ (w : Watched). LooseAreTrue clauses w.pairs c.step.new.row.trail) (sym s.0)
+    (subst (λ (a : Assigned). LooseAreTrue clauses c.loop-place.watched.pairs a.trail) (sym s.1) c.loop-place.invariant.loose)
+
+pub returns-clause-loose : goal.returns-clause-loose
+returns-clause-loose c = c.loop-place.invariant.loose
