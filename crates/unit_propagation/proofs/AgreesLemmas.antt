@@ -1,5 +1,5 @@
 -- The values agree with their trail: after a literal is set, one is undone, and a variable is added.
-use Rattle.std.proofs.Common.{◌≡◌, ℕ, ◌+◌, ◌<◌, ◌≤◌, Bool, true, false, not, List, [], ◌∷◌, ◌++◌, length, length-append, get_or, cond, take, zero, suc, add-one, refl, ap, sym, ◌∙◌, subst, arith, inl, inr}
+use Rattle.std.proofs.Common.{◌≡◌, ℕ, ◌+◌, ◌<◌, ◌≤◌, Bool, true, false, not, List, [], ◌∷◌, ◌++◌, length, length-append, get_or, cond, refl, ap, sym, ◌∙◌, subst, arith, inl, inr}
 use Rattle.std.proofs.Math.ListN.{set}
 use Rattle.std.specs.Prelude.{Contains, count_by}
 use Rattle.std.proofs.lemmas.List.{get_or-set_same, get_or-set_other, get_or_append_left, get_or_push, length-set, get_or_past}
@@ -128,7 +128,6 @@ within values trail h k d inside = elim (cases_lt (get_or trail k d).var (length
   | inr past ↦ absurd (set_not_open (get_or trail k d).positive
       (sym (h.holds_trail (get_or trail k d) (Contains-get_or trail k d inside)) ∙ get_or_past values (get_or trail k d).var Open past))
 ]
-
 
 -- the last literal's variable is opened
 pub agrees_pop : (values : List Truth) (trail : List Lit) (l : Lit) → Agrees values (trail ++ l ∷ []) → Agrees (set values l.var Open) trail

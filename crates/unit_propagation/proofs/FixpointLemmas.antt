@@ -1,6 +1,6 @@
 -- Where each clause is ready the trail is the least closed set of literals, and where one is false propagation conflicts.
-use Rattle.std.proofs.Common.{◌≡◌, ◌≢◌, ◌⊎◌, ℕ, ◌+◌, ◌<◌, ◌≤◌, false, Option, Some, None, List, [], ◌∷◌, length, get_or, take, zero, suc, inl, inr, refl, ap, sym, ◌∙◌, subst, arith}
-use Rattle.std.specs.Prelude.{IsTrue, All, Any, Contains, slice_get}
+use Rattle.std.proofs.Common.{◌≡◌, ◌≢◌, ◌⊎◌, ℕ, ◌<◌, ◌≤◌, Option, Some, None, List, [], ◌∷◌, length, get_or, take, zero, suc, inl, inr, refl, ap, sym, ◌∙◌, subst, arith}
+use Rattle.std.specs.Prelude.{IsTrue, All, Any, Contains}
 use Rattle.std.proofs.lemmas.Bool.{cases_Bool, cases_eq, both_ways}
 use Rattle.std.proofs.lemmas.List.{get_or-take, get_or_default, length-take-le}
 use Rattle.std.proofs.lemmas.List.Elements.{All-contains, Contains-get_or}
@@ -9,7 +9,7 @@ use Rattle.cnf_core.specs.declared.formula.Lit.{Lit}
 use Rattle.cnf_core.specs.Literal.{denial, LitSet}
 use Rattle.cnf_core.specs.Propagation.{Leaves, IsClosed, Sets, Conflicts}
 use Rattle.cnf_core.proofs.Literals.{lit-cases, no_lit}
-use Rattle.unit_propagation.specs.Units.{IsFalse, IsUnit}
+use Rattle.unit_propagation.specs.Units.{IsFalse}
 use Rattle.unit_propagation.specs.declared.pair.Pair.{Pair}
 use Rattle.unit_propagation.specs.Trail.{decided, IsJustified, Explains}
 use Rattle.unit_propagation.specs.Watching.{Watched, IsIndexed, has}

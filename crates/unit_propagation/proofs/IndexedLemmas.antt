@@ -1,6 +1,6 @@
 -- Clauses are found by their watched literals: when one more is added, and when a watch moves to another literal.
-use Rattle.std.proofs.Common.{◌≡◌, ◌≢◌, ◌⊎◌, ℕ, ◌+◌, ◌-◌, ◌*◌, ◌<◌, ◌≤◌, Bool, true, false, cond, List, [], ◌∷◌, ◌++◌, length, get_or, inl, inr, refl, ap, sym, ◌∙◌, subst, arith, length-append}
-use Rattle.std.specs.Prelude.{IsTrue, All, Contains, Some, count_by, swap_remove, slice_get}
+use Rattle.std.proofs.Common.{◌≡◌, ◌≢◌, ◌⊎◌, ℕ, ◌+◌, ◌-◌, ◌*◌, ◌<◌, ◌≤◌, Bool, true, false, List, [], ◌∷◌, ◌++◌, length, get_or, inl, inr, refl, ap, sym, ◌∙◌, subst, arith}
+use Rattle.std.specs.Prelude.{IsTrue, All, Contains, count_by, swap_remove}
 use Rattle.std.proofs.Math.ListN.{set}
 use Rattle.std.proofs.lemmas.Bool.{cases_eq, cases_lt, cases_Bool, both_ways}
 use Rattle.std.proofs.lemmas.List.{get_or-set_same, get_or-set_other, get_or_append_left, get_or_push, length-set, length_push}
@@ -12,7 +12,7 @@ use Rattle.cnf_core.proofs.Literals.{lit-cases}
 use Rattle.unit_propagation.specs.Units.{IsWithin}
 use Rattle.unit_propagation.specs.declared.pair.Pair.{Pair}
 use Rattle.unit_propagation.specs.Watching.{Watched, IsIndexed, IsHeld, MovesWatch, ListsClause, IsOther, code_of, watches, pair_of, list_at, has}
-use Rattle.unit_propagation.proofs.PairLemmas.{watches_cases, has_contains, watches_first, watches_second, watches_not, other_this, other_other, other_only, contains_has, code_same}
+use Rattle.unit_propagation.proofs.PairLemmas.{watches_cases, has_contains, watches_first, watches_second, watches_not, other_other, other_only, contains_has, code_same}
 use Rattle.unit_propagation.proofs.CountLemmas.{weight, count_le, count_lt}
 use Rattle.unit_propagation.proofs.ListLemmas.{contains_swap_remove, all_swap_remove, length_swap_remove}
 
@@ -33,7 +33,7 @@ pub watch_count_less : (width : ℕ) (clauses : List (List Lit)) (pairs : List P
 watch_count_less width clauses pairs lists held l c p clause h counts inside is_not stands =
     let most : count_by (λ p. watches p l) pairs < count_by (has l) clauses =
     count_lt (λ q. watches q l) (has l) pairs clauses c p clause h.paired
-        (λ i q k within is. contains_has l (get_or clauses i k) (h.stands i q k within l is)) inside is_not (contains_has l (get_or clauses c clause) stands) in
+    (λ i q k within is. contains_has l (get_or clauses i k) (h.stands i q k within l is)) inside is_not (contains_has l (get_or clauses c clause) stands) in
     let few = h.counted l in
     let enough = counts l in
     omega arith
@@ -150,9 +150,12 @@ lists_moved old from place c to from_inside to_inside differs l = elim (lit-case
   | inl is_from ↦ inl (is_from, from_case is_from)
   | inr not_from ↦ elim (lit-cases l to) [
     | inl is_to ↦ inr (inl (is_to, not_from, to_case is_to))
-    | inr not_to ↦ inr (inr (not_from, not_to,
-        get_or-set_other mid (code_of to) (code_of l) added [] (λ same. not_to (code_same l to same))
-        ∙ get_or-set_other old (code_of from) (code_of l) removed [] (λ same. not_from (code_same l from same))))
+    | inr not_to ↦ inr (inr (
+      not_from,
+      not_to,
+      get_or-set_other mid (code_of to) (code_of l) added [] (λ same. not_to (code_same l to same))
+          ∙ get_or-set_other old (code_of from) (code_of l) removed [] (λ same. not_from (code_same l from same)),
+    ))
   ]
 ] where
   removed : List ℕ

@@ -1,5 +1,5 @@
 -- Lists of numbers and of lists: one that gets a default, and one in which a place is written.
-use Rattle.std.proofs.Common.{◌≡◌, ◌≢◌, ℕ, ◌+◌, ◌<◌, ◌≤◌, ◌-◌, List, [], ◌∷◌, ◌++◌, length, get_or, drop, map, inl, inr, ap, sym, ◌∙◌, subst, arith, length-append}
+use Rattle.std.proofs.Common.{◌≡◌, ◌≢◌, ℕ, ◌+◌, ◌<◌, ◌≤◌, ◌-◌, List, [], ◌∷◌, ◌++◌, length, get_or, drop, map, inl, inr, ap, sym, ◌∙◌, arith, length-append}
 use Rattle.std.proofs.Math.ListN.{set}
 use Rattle.std.specs.Prelude.{All, Contains, swap_remove}
 use Rattle.std.proofs.lemmas.Bool.{cases_eq, cases_lt}
@@ -44,26 +44,36 @@ set_keeps xs k n more i = elim (cases_eq i k) [
 pub contains_swap_remove : (xs : List ℕ) (i c y : ℕ) → i < length xs → get_or xs i c ≡ c → Contains xs y → y ≢ c → Contains (swap_remove xs i c) y
 contains_swap_remove xs i c y inside at (k, within, is) differs = elim (cases_eq k (length xs - 1)) [
   | inl last ↦ moved last
-  | inr before ↦ (k, omega (arith, length-take (length xs - 1) (set xs i (get_or xs (length xs - 1) c)), length-set xs i (get_or xs (length xs - 1) c)),
-      get_or-take (length xs - 1) (set xs i (get_or xs (length xs - 1) c)) k y (omega arith)
-      ∙ get_or-set_other xs i k (get_or xs (length xs - 1) c) y (λ same. differs (sym is ∙ ap (λ (j : ℕ). get_or xs j y) same ∙ get_or_default xs i y c inside ∙ at))
-      ∙ is)
+  | inr before ↦ (
+    k,
+    omega (arith, length-take (length xs - 1) (set xs i (get_or xs (length xs - 1) c)), length-set xs i (get_or xs (length xs - 1) c)),
+    get_or-take (length xs - 1) (set xs i (get_or xs (length xs - 1) c)) k y (omega arith)
+        ∙ get_or-set_other xs i k (get_or xs (length xs - 1) c) y (λ same. differs (sym is ∙ ap (λ (j : ℕ). get_or xs j y) same ∙ get_or_default xs i y c inside ∙ at))
+        ∙ is,
+  )
 ] where
   moved : k ≡ length xs - 1 → Contains (swap_remove xs i c) y
   moved last = elim (cases_eq i (length xs - 1)) [
     | inl same ↦ absurd (differs (sym is ∙ ap (λ (j : ℕ). get_or xs j y) (last ∙ sym same) ∙ get_or_default xs i y c inside ∙ at))
-    | inr before ↦ (i, omega (arith, length-take (length xs - 1) (set xs i (get_or xs (length xs - 1) c)), length-set xs i (get_or xs (length xs - 1) c)),
-        get_or-take (length xs - 1) (set xs i (get_or xs (length xs - 1) c)) i y (omega arith)
-        ∙ get_or-set_same xs i (get_or xs (length xs - 1) c) y inside
-        ∙ get_or_default xs (length xs - 1) c y (omega arith) ∙ ap (λ (j : ℕ). get_or xs j y) (sym last) ∙ is)
+    | inr before ↦ (
+      i,
+      omega (arith, length-take (length xs - 1) (set xs i (get_or xs (length xs - 1) c)), length-set xs i (get_or xs (length xs - 1) c)),
+      get_or-take (length xs - 1) (set xs i (get_or xs (length xs - 1) c)) i y (omega arith)
+          ∙ get_or-set_same xs i (get_or xs (length xs - 1) c) y inside
+          ∙ get_or_default xs (length xs - 1) c y (omega arith) ∙ ap (λ (j : ℕ). get_or xs j y) (sym last) ∙ is,
+    )
   ]
 
 -- from a place on: the element there is another, and those behind it stay
 pub drop_swap_remove : (xs : List ℕ) (i c y : ℕ) → i < length xs → get_or xs i c ≡ c → Contains (drop i xs) y → y ≢ c → Contains (drop i (swap_remove xs i c)) y
 drop_swap_remove xs i c y inside at (k, within, is) differs = elim (cases_eq (i + k) (length xs - 1)) [
   | inl last ↦ moved last
-  | inr before ↦ (k, omega (arith, size, shorter), get_or-drop i (swap_remove xs i c) k y ∙ get_or-take (length xs - 1) (set xs i end) (i + k) y (omega (arith, size))
-      ∙ get_or-set_other xs i (i + k) end y (λ same. not_here (omega arith)) ∙ sym (get_or-drop i xs k y) ∙ is)
+  | inr before ↦ (
+    k,
+    omega (arith, size, shorter),
+    get_or-drop i (swap_remove xs i c) k y ∙ get_or-take (length xs - 1) (set xs i end) (i + k) y (omega (arith, size))
+        ∙ get_or-set_other xs i (i + k) end y (λ same. not_here (omega arith)) ∙ sym (get_or-drop i xs k y) ∙ is,
+  )
 ] where
   end : ℕ
   end = get_or xs (length xs - 1) c
@@ -83,14 +93,18 @@ drop_swap_remove xs i c y inside at (k, within, is) differs = elim (cases_eq (i 
     at_i none = omega arith
 
   moved : i + k ≡ length xs - 1 → Contains (drop i (swap_remove xs i c)) y
-  moved last = (0, omega (arith, size, shorter, differs_place), get_or-drop i (swap_remove xs i c) 0 y ∙ get_or-take (length xs - 1) (set xs i end) (i + 0) y (omega (arith, size, differs_place))
-      ∙ ap (λ (j : ℕ). get_or (set xs i end) j y) (zero_more i) ∙ get_or-set_same xs i end y inside
-      ∙ get_or_default xs (length xs - 1) c y (omega arith) ∙ ap (λ (j : ℕ). get_or xs j y) (sym last) ∙ sym (get_or-drop i xs k y) ∙ is) where
-        zero_more : (n : ℕ) → n + 0 ≡ n
-        zero_more n = omega arith
+  moved last = (
+    0,
+    omega (arith, size, shorter, differs_place),
+    get_or-drop i (swap_remove xs i c) 0 y ∙ get_or-take (length xs - 1) (set xs i end) (i + 0) y (omega (arith, size, differs_place))
+        ∙ ap (λ (j : ℕ). get_or (set xs i end) j y) (zero_more i) ∙ get_or-set_same xs i end y inside
+        ∙ get_or_default xs (length xs - 1) c y (omega arith) ∙ ap (λ (j : ℕ). get_or xs j y) (sym last) ∙ sym (get_or-drop i xs k y) ∙ is,
+  ) where
+    zero_more : (n : ℕ) → n + 0 ≡ n
+    zero_more n = omega arith
 
-        differs_place : 0 < k
-        differs_place = elim (cases_eq k 0) [ inl none ↦ absurd (not_here none) | inr some ↦ omega arith ]
+    differs_place : 0 < k
+    differs_place = elim (cases_eq k 0) [ inl none ↦ absurd (not_here none) | inr some ↦ omega arith ]
 
 pub all_swap_remove : (P : ℕ → Type 0) (xs : List ℕ) (i c : ℕ) → i < length xs → All P xs → All P (swap_remove xs i c)
 all_swap_remove P xs i c inside all = All-take P (length xs - 1) (set xs i (get_or xs (length xs - 1) c)) (All-set P xs i (get_or xs (length xs - 1) c) (All-get_or P xs (length xs - 1) c (omega arith) all) all)

@@ -1,11 +1,11 @@
 -- The watched literals of a pair, and the places of literals among the lists.
-use Rattle.std.proofs.Common.{◌≡◌, ◌≢◌, ◌⊎◌, ℕ, ◌+◌, ◌*◌, ◌<◌, ◌≤◌, Bool, true, false, not, ◌&&◌, ◌||◌, List, [], ◌∷◌, zero, suc, inl, inr, refl, ap, sym, ◌∙◌, subst, arith}
+use Rattle.std.proofs.Common.{◌≡◌, ◌≢◌, ◌⊎◌, ℕ, ◌+◌, ◌*◌, ◌<◌, ◌≤◌, Bool, true, false, not, ◌||◌, List, [], ◌∷◌, zero, suc, inl, inr, refl, ap, sym, ◌∙◌, arith}
 use Rattle.std.specs.Prelude.{IsTrue, Contains, if◌then◌else◌}
-use Rattle.std.proofs.lemmas.Bool.{or_cases, or_left, or_right, and_parts, and_from, cases_Bool, both_ways}
+use Rattle.std.proofs.lemmas.Bool.{or_cases, or_left, or_right, and_parts, and_from, cases_Bool}
 use Rattle.cnf_core.specs.declared.formula.Lit.{Lit}
-use Rattle.cnf_core.proofs.Literals.{lit_eq, lit_eq-true, lit_eq-itself, lit_eq-false, lit-same, lit-cases}
+use Rattle.cnf_core.proofs.Literals.{lit_eq, lit_eq-true, lit_eq-itself, lit_eq-false, lit-same}
 use Rattle.unit_propagation.specs.declared.pair.Pair.{Pair}
-use Rattle.unit_propagation.specs.Watching.{code_of, watches, IsOther, pair_of, has}
+use Rattle.unit_propagation.specs.Watching.{code_of, watches, IsOther, has}
 
 not_true : (b : Bool) → b ≡ false → not b ≡ true
 not_true true e = cc

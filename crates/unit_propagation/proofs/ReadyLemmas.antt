@@ -1,6 +1,6 @@
 -- Visiting the clauses that watch a denied literal: at the start, past a clause, when a watch moves, and at the end.
-use Rattle.std.proofs.Common.{◌≡◌, ◌≢◌, ◌⊎◌, ℕ, ◌+◌, ◌<◌, ◌≤◌, Bool, true, false, List, [], ◌∷◌, ◌++◌, length, get_or, take, drop, zero, suc, inl, inr, refl, ap, sym, ◌∙◌, subst, arith, add-one, drop-cons, length-append}
-use Rattle.std.specs.Prelude.{IsTrue, Any, Contains, swap_remove}
+use Rattle.std.proofs.Common.{◌≡◌, ◌⊎◌, ℕ, ◌+◌, ◌<◌, ◌≤◌, false, List, [], ◌∷◌, ◌++◌, length, get_or, take, drop, zero, suc, inl, inr, refl, ap, sym, ◌∙◌, subst, arith, add-one, drop-cons, length-append}
+use Rattle.std.specs.Prelude.{Any, Contains}
 use Rattle.std.proofs.Math.ListN.{set}
 use Rattle.std.proofs.lemmas.Bool.{cases_eq, cases_Bool, both_ways}
 use Rattle.std.proofs.lemmas.List.{get_or-set_same, get_or-set_other, get_or_default, get_or_append_left, length-set, take-append-le, take_more, drop_all, take-append-drop}
@@ -143,13 +143,16 @@ visiting_moved w new trail head l place inside at here exists moved visiting = s
       | inr (first, second) ↦ b (subst (λ (x : Lit). IsFalse (take (head + 1) trail) x) (sym second) (denied_next trail head l inside at))
     ])
     | inr (inl is, ahead) ↦ inl is
-    | inr (inr (a, b), ahead) ↦ inr ((λ h. elim (false_next trail head l moved.other inside at h) [
-      | inl before ↦ elim (moved.pair q).1 [
-        | inl (first, second) ↦ b (subst (λ (x : Lit). IsFalse (take head trail) x) (sym second) before)
-        | inr (first, second) ↦ a (subst (λ (x : Lit). IsFalse (take head trail) x) (sym first) before)
-      ]
-      | inr is ↦ (moved.pair q).0 is
-    ]), (λ h. moved.not_false (take_within trail (head + 1) (denial moved.to) h)))
+    | inr (inr (a, b), ahead) ↦ inr (
+      (λ h. elim (false_next trail head l moved.other inside at h) [
+        | inl before ↦ elim (moved.pair q).1 [
+          | inl (first, second) ↦ b (subst (λ (x : Lit). IsFalse (take head trail) x) (sym second) before)
+          | inr (first, second) ↦ a (subst (λ (x : Lit). IsFalse (take head trail) x) (sym first) before)
+        ]
+        | inr is ↦ (moved.pair q).0 is
+      ]),
+      (λ h. moved.not_false (take_within trail (head + 1) (denial moved.to) h)),
+    )
   ]
 
   all : Visiting w.clauses (set w.pairs c q) new.lists trail head (denial l) place
@@ -219,10 +222,13 @@ keeps_moved w new trail from place exists moved = subst (λ (ps : List Pair). Ke
   ] where
     free : k ≡ c → Ready part part (get_or w.pairs k q) (get_or w.clauses k clause) → Ready part part q (get_or w.clauses k clause)
     free same (inl is) = inl is
-    free same (inr (a, b)) = inr ((λ h. elim (subst (λ (i : ℕ). IsOther (get_or w.pairs i q) from moved.other) (sym same) (moved.pair q)).1 [
-      | inl (first, second) ↦ b (subst (IsFalse part) (sym second) h)
-      | inr (first, second) ↦ a (subst (IsFalse part) (sym first) h)
-    ]), (λ h. moved.not_false (within (denial moved.to) h)))
+    free same (inr (a, b)) = inr (
+      (λ h. elim (subst (λ (i : ℕ). IsOther (get_or w.pairs i q) from moved.other) (sym same) (moved.pair q)).1 [
+        | inl (first, second) ↦ b (subst (IsFalse part) (sym second) h)
+        | inr (first, second) ↦ a (subst (IsFalse part) (sym first) h)
+      ]),
+      (λ h. moved.not_false (within (denial moved.to) h)),
+    )
 
   loose : (part : List Lit) → LooseAreTrue w.clauses w.pairs part → LooseAreTrue w.clauses (set w.pairs c q) part
   loose part h k p clause inside same_pair = elim (cases_eq k c) [

@@ -1,9 +1,9 @@
 -- The state of a propagator: when propagation goes on, when a literal is decided or undone, and with one clause more.
-use Rattle.std.proofs.Common.{◌≡◌, ◌≢◌, ◌⊎◌, ℕ, ◌+◌, ◌-◌, ◌<◌, ◌≤◌, true, false, Option, Some, None, List, [], ◌∷◌, ◌++◌, map, length, get_or, take, drop, inl, inr, refl, ap, sym, ◌∙◌, subst, arith, length-append}
-use Rattle.std.specs.Prelude.{All, Any, Contains, slice_get}
-use Rattle.std.proofs.lemmas.Bool.{cases_lt, cases_eq, both_ways}
+use Rattle.std.proofs.Common.{◌≡◌, ℕ, ◌+◌, ◌-◌, ◌<◌, ◌≤◌, true, false, Option, Some, None, List, [], ◌∷◌, ◌++◌, length, get_or, take, inl, inr, refl, ap, sym, ◌∙◌, subst, arith, length-append}
+use Rattle.std.specs.Prelude.{All, Any, Contains}
+use Rattle.std.proofs.lemmas.Bool.{cases_lt, both_ways}
 use Rattle.std.proofs.lemmas.List.{get_or_append_left, get_or-append_right, get_or_push, get_or-take, length-map, length_push, length-take-le, map-append, take-map, take-append-le, take-take, take_all}
-use Rattle.std.proofs.lemmas.List.Elements.{All-push, All-contains, All-get_or, All-weaker, Contains-append_left, Contains-push}
+use Rattle.std.proofs.lemmas.List.Elements.{All-push, All-contains, All-weaker, Contains-append_left, Contains-push}
 use Rattle.std.proofs.lemmas.Option.{slice_get-get_or, get_or_from_slice_get, slice_get_within}
 use Rattle.cnf_core.specs.declared.formula.Lit.{Lit}
 use Rattle.cnf_core.specs.Literal.{denial}
@@ -106,8 +106,10 @@ state_undone clauses pairs trail causes head place end loose s inside is_end = r
     widen (inl (k, x, below, at, is)) = inl (k, x, below, at, take_within (take place trail) end x (subst (λ (t : List Lit). Contains t x) (sym (take-take end place trail is_end.0)) is))
 
   none_denied : end ≡ 0 → AllReady clauses pairs (take place trail) (take end (take place trail))
-  none_denied zero_end c p clause within = inr ((λ h. nothing (denial (get_or pairs c p).first) (subst (λ (n : ℕ). Contains (take n (take place trail)) (denial (get_or pairs c p).first)) zero_end h)),
-      (λ h. nothing (denial (get_or pairs c p).second) (subst (λ (n : ℕ). Contains (take n (take place trail)) (denial (get_or pairs c p).second)) zero_end h))) where
+  none_denied zero_end c p clause within = inr (
+    (λ h. nothing (denial (get_or pairs c p).first) (subst (λ (n : ℕ). Contains (take n (take place trail)) (denial (get_or pairs c p).first)) zero_end h)),
+    (λ h. nothing (denial (get_or pairs c p).second) (subst (λ (n : ℕ). Contains (take n (take place trail)) (denial (get_or pairs c p).second)) zero_end h)),
+  ) where
     nothing : (l : Lit) → Contains [] l → ⊥
     nothing l (k, below, at) = absurd (omega arith)
 

@@ -1,16 +1,13 @@
 -- One step of a visit: what is known of the clauses and the trail since its start.
-use Rattle.std.proofs.Common.{◌≡◌, ◌≤◌, ℕ, ◌+◌, ◌<◌, List, ◌++◌, length, get_or, take, refl, ap, sym, ◌∙◌, subst, arith, length-append}
-use Rattle.std.specs.Prelude.{Contains}
-use Rattle.std.proofs.lemmas.List.{get_or_append_left, take-append-le}
+use Rattle.std.proofs.Common.{◌≡◌, ℕ, ◌+◌, ◌<◌, List, ◌++◌, length, get_or, ap, sym, ◌∙◌, subst, arith, length-append}
+use Rattle.std.proofs.lemmas.List.{get_or_append_left}
 use Rattle.cnf_core.specs.declared.formula.Lit.{Lit}
 use Rattle.cnf_core.specs.Literal.{denial}
-use Rattle.unit_propagation.specs.declared.pair.Pair.{Pair}
-use Rattle.unit_propagation.specs.declared.assignment.Cause.{Cause}
 use Rattle.unit_propagation.specs.declared.propagation.Seen.TheVariants.{Kept, Moved}
 use Rattle.unit_propagation.specs.Assigned.{Assigned}
 use Rattle.unit_propagation.specs.Trail.{Implies}
 use Rattle.unit_propagation.specs.Watching.{Watched, list_at}
-use Rattle.unit_propagation.specs.Ready.{AllReady, LooseAreTrue, KeepsReady, IsSeen, IsDone, clause_at}
+use Rattle.unit_propagation.specs.Ready.{LooseAreTrue, KeepsReady, IsSeen, IsDone, clause_at}
 use Rattle.unit_propagation.proofs.TrailLemmas.{implies_then}
 use Rattle.unit_propagation.proofs.ReadyLemmas.{Visiting, visiting_kept, visiting_moved, loose_grows, keeps_then, keeps_moved}
 

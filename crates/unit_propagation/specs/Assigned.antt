@@ -1,5 +1,5 @@
 -- What an assignment stands for: the literals that were set, in order, each with its cause.
-use Rattle.std.specs.Prelude.{◌≡◌, ◌≤◌, ℕ, Bool, true, false, List, length, Contains, count_by, slice_index_or, vec_capacity}
+use Rattle.std.specs.Prelude.{◌≡◌, ℕ, Bool, true, false, List, length, Contains, count_by, slice_index_or}
 use Rattle.cnf_core.specs.declared.formula.Lit.{Lit}
 use Rattle.cnf_core.specs.Literal.{denial, IsApart}
 use Rattle.unit_propagation.specs.Units.{IsOpen}

@@ -1,5 +1,5 @@
 -- How far propagation has come, and what no clause can go on from.
-use Rattle.std.specs.Prelude.{◌≡◌, ◌<◌, ◌↔◌, ℕ, List, Some, None, Option, All, Contains, length, slice_index_or}
+use Rattle.std.specs.Prelude.{◌<◌, ◌↔◌, ℕ, List, All, Contains, length, slice_index_or}
 use Rattle.cnf_core.specs.declared.formula.Lit.{Lit}
 use Rattle.cnf_core.specs.Propagation.{Sets}
 use Rattle.unit_propagation.specs.Units.{IsFalse, IsUnit}

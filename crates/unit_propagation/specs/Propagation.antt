@@ -1,5 +1,5 @@
 -- Clauses and an assignment, as a caller sees them.
-use Rattle.std.specs.Prelude.{◌≡◌, ℕ, ◌++◌, ◌∷◌, [], List, Option, Some, None, take, slice_index_or, length, ◌<◌, ◌≤◌, Bool, true, ◌⊎◌}
+use Rattle.std.specs.Prelude.{◌≡◌, ℕ, ◌++◌, ◌∷◌, [], List, Option, None, take, slice_index_or, ◌≤◌, true, ◌⊎◌}
 use Rattle.cnf_core.specs.declared.formula.Lit.{Lit}
 use Rattle.unit_propagation.specs.Trail.{decided, Explains}
 use Rattle.unit_propagation.specs.declared.assignment.Cause.{Cause}

@@ -1,5 +1,5 @@
 -- How the fields of a propagator fit together.
-use Rattle.std.specs.Prelude.{◌≡◌, ◌<◌, ◌≤◌, ℕ, true, List, length, take, slice_index_or}
+use Rattle.std.specs.Prelude.{◌≡◌, ◌≤◌, ℕ, List, length, take}
 use Rattle.cnf_core.specs.declared.formula.Lit.{Lit}
 use Rattle.unit_propagation.specs.declared.pair.Pair.{Pair}
 use Rattle.unit_propagation.specs.declared.assignment.Cause.{Cause}

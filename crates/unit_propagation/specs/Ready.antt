@@ -1,5 +1,5 @@
 -- How far clauses were looked at: one has a true literal, or neither of its watched literals was denied so far.
-use Rattle.std.specs.Prelude.{◌≡◌, ◌≢◌, ◌<◌, ◌+◌, ◌⊎◌, ℕ, List, [], true, false, Any, All, Contains, length, take, drop, slice_set, slice_index_or, swap_remove}
+use Rattle.std.specs.Prelude.{◌≡◌, ◌≢◌, ◌<◌, ◌⊎◌, ℕ, List, true, false, Any, All, Contains, length, take, slice_set, slice_index_or, swap_remove}
 use Rattle.cnf_core.specs.declared.formula.Lit.{Lit}
 use Rattle.unit_propagation.specs.Units.{IsFalse}
 use Rattle.unit_propagation.specs.Assigned.{Assigned}

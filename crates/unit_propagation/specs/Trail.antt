@@ -1,5 +1,5 @@
 -- The trail: which of its literals were decided, and that the others follow by their reasons.
-use Rattle.std.specs.Prelude.{◌≡◌, ◌<◌, ◌++◌, ℕ, Bool, false, List, [], ◌∷◌, Option, Some, None, All, map, length, take, slice_get, slice_index_or}
+use Rattle.std.specs.Prelude.{◌≡◌, ◌<◌, ◌++◌, ℕ, false, List, [], ◌∷◌, Option, Some, None, All, map, length, take, slice_get, slice_index_or}
 use Rattle.cnf_core.specs.declared.formula.Lit.{Lit}
 use Rattle.unit_propagation.specs.Units.{IsUnit}
 use Rattle.unit_propagation.specs.declared.assignment.Cause.{Cause}

@@ -1,5 +1,5 @@
 -- Two watched literals for each clause, and for each literal the list of the clauses that watch it.
-use Rattle.std.specs.Prelude.{◌≡◌, ◌≢◌, ◌⊎◌, ◌&&◌, ◌||◌, ◌<◌, ◌≤◌, ◌+◌, ◌*◌, ◌∷◌, ◌++◌, [], ℕ, Bool, not, true, false, IsTrue, List, Some, All, Contains, length, count_by, slice_get, slice_index_or, if◌then◌else◌}
+use Rattle.std.specs.Prelude.{◌≡◌, ◌≢◌, ◌⊎◌, ◌&&◌, ◌||◌, ◌<◌, ◌≤◌, ◌+◌, ◌*◌, ◌∷◌, ◌++◌, [], ℕ, Bool, not, false, IsTrue, List, Some, All, Contains, length, count_by, slice_get, slice_index_or, if◌then◌else◌}
 use Rattle.cnf_core.specs.declared.formula.Lit.{Lit}
 use Rattle.cnf_core.proofs.Literals.{lit_eq}
 use Rattle.unit_propagation.specs.Units.{IsWithin}

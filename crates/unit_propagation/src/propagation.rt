@@ -2,7 +2,6 @@
 //! there is none it sets its other watched literal or is false.
 
 ghost use Rattle.std.specs.Prelude.{◌≡◌, ◌≢◌, ◌<◌, ◌≤◌, ◌+◌, ◌↔◌, All, IsTrue, IfSome, IfNone, length, take};
-
 ghost use Rattle.unit_propagation.specs.Units.{IsFalse, IsFree, IsWithin, IsConsistent};
 ghost use Rattle.unit_propagation.specs.Trail.{Implies};
 ghost use Rattle.unit_propagation.specs.Watching.{list_at, IsIndexed};

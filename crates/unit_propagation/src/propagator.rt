@@ -110,7 +110,11 @@ impl Propagator {
         ensures all_set { IfNone result (AreAllSet self.old.clauses (decisions self.old) self.new.trail) }
         ensures none { IfNone result (¬ Conflicts self.old.clauses (decisions self.old)) }
     {
-        if let Some(clause) = set_loose(self.watched.clauses(), &mut self.row, self.loose.as_slice()) {
+        if let Some(clause) = set_loose(
+            self.watched.clauses(),
+            &mut self.row,
+            self.loose.as_slice(),
+        ) {
             return Some(clause);
         }
         run(&mut self.watched, &mut self.row, &mut self.head)

@@ -41,7 +41,11 @@ pub fn add_zeros(held: &mut Vec<usize>, count: usize) -> Result<(), AllocError>
 }
 
 /// Makes room for one more clause in the list of each of its literals.
-pub fn make_room(lists: &mut Vec<Vec<usize>>, held: &mut Vec<usize>, clause: &[Lit]) -> Result<(), AllocError>
+pub fn make_room(
+    lists: &mut Vec<Vec<usize>>,
+    held: &mut Vec<usize>,
+    clause: &[Lit],
+) -> Result<(), AllocError>
     requires lists { All (λ l. code_of l < length lists.old.items) clause.now }
     requires numbers { All (λ l. code_of l < length held.old.items) clause.now }
     requires room { HasRoom held.old.items (map (λ v. vec_capacity v) lists.old.items) }
@@ -57,7 +61,11 @@ pub fn make_room(lists: &mut Vec<Vec<usize>>, held: &mut Vec<usize>, clause: &[L
     Ok(())
 }
 
-fn make_room_at(lists: &mut Vec<Vec<usize>>, held: &mut Vec<usize>, at: usize) -> Result<(), AllocError>
+fn make_room_at(
+    lists: &mut Vec<Vec<usize>>,
+    held: &mut Vec<usize>,
+    at: usize,
+) -> Result<(), AllocError>
     requires lists { at < length lists.old.items }
     requires numbers { at < length held.old.items }
     requires room { HasRoom held.old.items (map (λ v. vec_capacity v) lists.old.items) }

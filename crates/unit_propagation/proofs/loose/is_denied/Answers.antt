@@ -1,13 +1,12 @@
 -- The clause has one literal, however often it stands there.
-use Rattle.std.proofs.Common.{◌≡◌, ◌≢◌, ◌<◌, ℕ, ◌∷◌, [], ◌++◌, List, Some, length, get_or, refl, ap, sym, ◌∙◌, subst, arith}
-use Rattle.std.specs.Prelude.{All, Any, Contains, slice_get}
+use Rattle.std.proofs.Common.{◌≡◌, ◌<◌, ℕ, ◌∷◌, [], ◌++◌, List, Some, length, get_or, sym, ◌∙◌, subst}
+use Rattle.std.specs.Prelude.{Any, Contains, slice_get}
 use Rattle.std.proofs.lemmas.List.{get_or_default}
 use Rattle.std.proofs.lemmas.List.Elements.{Contains-get_or, Contains-push}
 use Rattle.std.proofs.lemmas.Option.{slice_get-get_or, slice_get_within, get_or_from_slice_get}
 use Rattle.cnf_core.specs.declared.formula.Lit.{Lit}
 use Rattle.unit_propagation.specs.declared.assignment.Cause.{Cause}
 use Rattle.unit_propagation.specs.Units.{IsFalse, IsUnit}
-use Rattle.unit_propagation.specs.Loose.{IsLoose}
 use Rattle.unit_propagation.specs.Trail.{Implies}
 use Rattle.unit_propagation.proofs.TrailLemmas.{implies_none, implies_one}
 use Rattle.unit_propagation.proofs.loose.is_denied.Goals as goal

@@ -1,9 +1,6 @@
 -- The head moves past a literal whose clauses were all looked at.
-use Rattle.std.proofs.Common.{◌≡◌, ◌<◌, ◌≤◌, ◌+◌, ◌++◌, ℕ, List, length, get_or, take, refl, ap, sym, ◌∙◌, subst, arith, length-append}
-use Rattle.std.specs.Prelude.{All}
+use Rattle.std.proofs.Common.{◌+◌, List, length, take, refl, ap, sym, ◌∙◌, subst, arith, length-append}
 use Rattle.cnf_core.specs.declared.formula.Lit.{Lit}
-use Rattle.unit_propagation.specs.Units.{IsFalse}
-use Rattle.unit_propagation.specs.declared.pair.Pair.{Pair}
 use Rattle.unit_propagation.specs.Trail.{Implies}
 use Rattle.unit_propagation.specs.Ready.{AllReady, LooseAreTrue, KeepsReady}
 use Rattle.unit_propagation.specs.Propagated.{IsFalseClause}

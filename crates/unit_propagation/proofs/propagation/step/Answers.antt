@@ -1,8 +1,8 @@
 -- The clause is passed, watches another literal, is false, or sets its other watched literal.
-use Rattle.std.proofs.Common.{◌≡◌, ◌≢◌, ◌<◌, ℕ, true, false, ◌∷◌, [], ◌++◌, List, length, get_or, refl, ap, sym, ◌∙◌, subst, arith, inl, inr, Some}
+use Rattle.std.proofs.Common.{◌≡◌, ◌≢◌, ◌<◌, ℕ, false, ◌∷◌, [], ◌++◌, List, length, get_or, refl, ap, sym, ◌∙◌, subst, arith, inl, inr, Some}
 use Rattle.std.specs.Prelude.{All, Any, Contains, IsTrue, slice_get}
 use Rattle.std.proofs.lemmas.List.{get_or_default}
-use Rattle.std.proofs.lemmas.List.Elements.{All-contains, Contains-push, All-get_or}
+use Rattle.std.proofs.lemmas.List.Elements.{All-contains, Contains-push}
 use Rattle.std.proofs.lemmas.Option.{get_or_from_slice_get, slice_get-get_or}
 use Rattle.cnf_core.specs.declared.formula.Lit.{Lit}
 use Rattle.cnf_core.proofs.Literals.{lit-cases}
@@ -13,10 +13,10 @@ use Rattle.unit_propagation.specs.declared.assignment.Truth.TheVariants.{True, F
 use Rattle.unit_propagation.specs.Units.{IsFalse, IsOpen, IsFree, IsUnit}
 use Rattle.unit_propagation.specs.Assigned.{StandsAs}
 use Rattle.unit_propagation.specs.Trail.{Implies}
-use Rattle.unit_propagation.specs.Watching.{Watched, IsIndexed, IsOther, MovesWatch, list_at, watches, pair_of}
-use Rattle.unit_propagation.specs.Ready.{IsDone, clause_at}
+use Rattle.unit_propagation.specs.Watching.{Watched, IsIndexed, IsOther, MovesWatch, list_at, watches}
+use Rattle.unit_propagation.specs.Ready.{clause_at}
 use Rattle.unit_propagation.proofs.PairLemmas.{other_other}
-use Rattle.unit_propagation.proofs.TrailLemmas.{implies_none, implies_one, implied_by}
+use Rattle.unit_propagation.proofs.TrailLemmas.{implies_none, implies_one}
 use Rattle.unit_propagation.proofs.propagation.step.Goals as goal
 
 -- the other watched literal stands in the clause
@@ -44,10 +44,12 @@ pub returns-in_default-clause-seen : goal.returns-in_default-clause-seen
 returns-in_default-clause-seen c =
     let w = c.args.watched.now in
     let n = c.nth-number.result in
-    let number = at_place w c.args.denied c.args.place n c.nth-number.ensures.is in
-    (refl, implies_none w.clauses c.args.row.now.trail c.args.row.now.causes,
-     inl (λ p. subst (λ (k : ℕ). watches (get_or w.pairs k p) c.args.denied ≡ false) number
-         (ap (λ (q : Pair). watches q c.args.denied) (get_or_from_slice_get w.pairs n c.pair.result p c.pair.ensures.is) ∙ c.in_default.ensures.not_watched)))
+    let number = at_place w c.args.denied c.args.place n c.nth-number.ensures.is in (
+      refl,
+      implies_none w.clauses c.args.row.now.trail c.args.row.now.causes,
+      inl (λ p. subst (λ (k : ℕ). watches (get_or w.pairs k p) c.args.denied ≡ false) number
+          (ap (λ (q : Pair). watches q c.args.denied) (get_or_from_slice_get w.pairs n c.pair.result p c.pair.ensures.is) ∙ c.in_default.ensures.not_watched)),
+    )
 
 pub value-truth-requires : goal.value-truth-requires
 value-truth-requires c =
@@ -62,11 +64,13 @@ returns-in-True-clause-seen c =
     let w = c.args.watched.now in
     let n = c.nth-number.result in
     let trail = c.args.row.now.trail in
-    let number = at_place w c.args.denied c.args.place n c.nth-number.ensures.is in
-    (refl, implies_none w.clauses trail c.args.row.now.causes,
-     inr (λ clause. subst (λ (k : ℕ). Any (Contains trail) (get_or w.clauses k clause)) number
-         (true_in trail (get_or w.clauses n clause) c.in-Some.other
-         (stands_other w n c.pair.result c.args.denied c.in-Some.other c.pair.ensures.indexed c.nth-number.ensures.exists c.pair.ensures.is c.in-Some.ensures.watched clause) c.in-True.ensures.0)))
+    let number = at_place w c.args.denied c.args.place n c.nth-number.ensures.is in (
+      refl,
+      implies_none w.clauses trail c.args.row.now.causes,
+      inr (λ clause. subst (λ (k : ℕ). Any (Contains trail) (get_or w.clauses k clause)) number
+          (true_in trail (get_or w.clauses n clause) c.in-Some.other
+          (stands_other w n c.pair.result c.args.denied c.in-Some.other c.pair.ensures.indexed c.nth-number.ensures.exists c.pair.ensures.is c.in-Some.ensures.watched clause) c.in-True.ensures.0)),
+    )
 
 -- the clause that is looked at is the one of the number
 clause_is : (cs clauses : List (List Lit)) (n : ℕ) (seen item clause : List Lit) → cs ≡ clauses → n < length clauses → seen ≡ item → item ≡ get_or cs n item → seen ≡ get_or clauses n clause
@@ -105,18 +109,21 @@ returns-in-Some-find_other c =
     let free = c.in-Some-find_other.ensures.found in
     let number = at_place w c.args.denied c.args.place n c.nth-number.ensures.is in
     record {
-      seen = (refl, record {
-        other = c.in-Some.other;
-        to = c.in-Some-find_other.to;
-        pair = λ p. subst (λ (k : ℕ). IsOther (get_or w.pairs k p) c.args.denied c.in-Some.other) number
-            (subst (λ (q : Pair). IsOther q c.args.denied c.in-Some.other) (sym (get_or_from_slice_get w.pairs n c.pair.result p c.pair.ensures.is)) c.in-Some.ensures.watched);
-        not_other = free.differs;
-        not_false = free.not_false;
-        width = c.rewatch.ensures.width;
-        clauses = c.rewatch.ensures.clauses;
-        pairs = rw (← number) c.rewatch.ensures.pairs;
-        list = rw (← number) c.rewatch.ensures.list;
-      });
+      seen = (
+        refl,
+        record {
+          other = c.in-Some.other;
+          to = c.in-Some-find_other.to;
+          pair = λ p. subst (λ (k : ℕ). IsOther (get_or w.pairs k p) c.args.denied c.in-Some.other) number
+              (subst (λ (q : Pair). IsOther q c.args.denied c.in-Some.other) (sym (get_or_from_slice_get w.pairs n c.pair.result p c.pair.ensures.is)) c.in-Some.ensures.watched);
+          not_other = free.differs;
+          not_false = free.not_false;
+          width = c.rewatch.ensures.width;
+          clauses = c.rewatch.ensures.clauses;
+          pairs = rw (← number) c.rewatch.ensures.pairs;
+          list = rw (← number) c.rewatch.ensures.list;
+        },
+      );
       row_width = refl;
     }
 
@@ -168,7 +175,11 @@ returns c =
     (subst (λ (cs : List Cause). Implies w.clauses trail causes (trail ++ other ∷ []) cs) (sym c.set.ensures.causes) one) in
     let is : Contains c.set.new.self.trail other = subst (λ (t : List Lit). Contains t other) (sym c.set.ensures.trail) (Contains-push trail other) in
     record {
-      seen = (refl, implies, inr (λ clause. subst (λ (k : ℕ). Any (Contains c.set.new.self.trail) (get_or w.clauses k clause)) number
-          (true_in c.set.new.self.trail (get_or w.clauses n clause) other (stands clause) is)));
+      seen = (
+        refl,
+        implies,
+        inr (λ clause. subst (λ (k : ℕ). Any (Contains c.set.new.self.trail) (get_or w.clauses k clause)) number
+            (true_in c.set.new.self.trail (get_or w.clauses n clause) other (stands clause) is)),
+      );
       row_width = c.set.ensures.width;
     }

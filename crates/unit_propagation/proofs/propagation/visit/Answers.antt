@@ -1,17 +1,15 @@
 -- The clauses of the denied literal's list are passed one after the other.
-use Rattle.std.proofs.Common.{◌≡◌, ◌<◌, ◌≤◌, ◌+◌, ◌++◌, ℕ, List, length, get_or, take, refl, ap, sym, ◌∙◌, subst, arith}
+use Rattle.std.proofs.Common.{◌≡◌, ◌<◌, ◌+◌, ℕ, List, length, get_or, take, refl, ap, sym, subst, arith}
 use Rattle.std.specs.Prelude.{All, Contains}
-use Rattle.std.proofs.lemmas.List.Elements.{Contains-append_left, Contains-get_or}
-use Rattle.std.proofs.lemmas.Option.{get_or_from_slice_get, slice_get_within}
+use Rattle.std.proofs.lemmas.List.Elements.{Contains-append_left}
+use Rattle.std.proofs.lemmas.Option.{get_or_from_slice_get}
 use Rattle.cnf_core.specs.declared.formula.Lit.{Lit}
-use Rattle.cnf_core.specs.Literal.{denial}
 use Rattle.cnf_core.proofs.Literals.{denial-denial}
 use Rattle.unit_propagation.specs.Units.{IsFalse}
 use Rattle.unit_propagation.specs.Assigned.{Assigned}
 use Rattle.unit_propagation.specs.Watching.{Watched, list_at}
-use Rattle.unit_propagation.specs.Trail.{Implies}
 use Rattle.unit_propagation.specs.Ready.{AllReady, LooseAreTrue, IsSeen, clause_at}
-use Rattle.unit_propagation.specs.declared.propagation.Seen.TheVariants.{Kept, Moved, Denied}
+use Rattle.unit_propagation.specs.declared.propagation.Seen.TheVariants.{Kept, Moved}
 use Rattle.unit_propagation.proofs.TrailLemmas.{implies_none}
 use Rattle.unit_propagation.proofs.ReadyLemmas.{Visiting, visiting_start, visiting_none, visiting_end, visiting_stop, keeps_none}
 use Rattle.unit_propagation.proofs.VisitLemmas.{Visited, visited_kept, visited_moved, head_inside}

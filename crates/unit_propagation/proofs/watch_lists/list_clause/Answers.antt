@@ -1,13 +1,11 @@
 -- Both lists get the clause where the two literals differ, and none where they are one.
-use Rattle.std.proofs.Common.{◌≡◌, ◌≢◌, ◌<◌, ◌++◌, ◌∷◌, [], ℕ, List, Vec, Global, refl, ap, sym, ◌∙◌, subst, arith, map, length, get_or, inl, inr}
-use Rattle.std.specs.Prelude.{vec_capacity, IsTrue}
+use Rattle.std.proofs.Common.{◌≡◌, ◌≢◌, ◌<◌, ◌++◌, ◌∷◌, [], ℕ, List, Vec, Global, refl, ap, sym, ◌∙◌, subst, arith, map, length, inl, inr}
 use Rattle.std.proofs.Math.ListN.{set}
 use Rattle.std.proofs.lemmas.List.{get_or-set_same, get_or-set_other, length-set, length-map}
-use Rattle.std.proofs.lemmas.Bool.{both_ways}
 use Rattle.cnf_core.specs.declared.formula.Lit.{Lit}
 use Rattle.cnf_core.proofs.Literals.{lit-cases}
 use Rattle.unit_propagation.specs.declared.pair.Pair.{Pair}
-use Rattle.unit_propagation.specs.Watching.{list_at, code_of, watches, ListsClause}
+use Rattle.unit_propagation.specs.Watching.{list_at, code_of, ListsClause}
 use Rattle.unit_propagation.proofs.PairLemmas.{watches_cases, watches_first, watches_second, watches_not, code_same}
 use Rattle.unit_propagation.proofs.watch_lists.list_clause.Goals as goal
 

@@ -1,5 +1,5 @@
 -- One literal more has its room.
-use Rattle.std.proofs.Common.{◌≡◌, ◌+◌, ◌<◌, ◌∷◌, [], ◌++◌, ℕ, List, Vec, Global, ap, sym, ◌∙◌, subst, arith, map, take, length, get_or, inl, inr}
+use Rattle.std.proofs.Common.{◌≡◌, ◌<◌, ℕ, List, Vec, Global, ap, sym, ◌∙◌, subst, arith, take, length, get_or, inl, inr}
 use Rattle.std.specs.Prelude.{Contains}
 use Rattle.std.proofs.lemmas.List.{length-map, take_more, take_all}
 use Rattle.std.proofs.lemmas.List.Elements.{Contains-push_cases}

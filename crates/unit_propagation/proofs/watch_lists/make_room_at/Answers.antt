@@ -1,5 +1,5 @@
 -- The list keeps its clauses, and its room is at least the number that it is counted for.
-use Rattle.std.proofs.Common.{◌≡◌, ◌<◌, ◌≤◌, [], ℕ, List, Vec, Global, ap, sym, ◌∙◌, arith, map, length, get_or, inl, inr}
+use Rattle.std.proofs.Common.{◌≡◌, ◌<◌, ◌≤◌, [], ℕ, List, Vec, Global, ap, ◌∙◌, arith, map, length, get_or, inl, inr}
 use Rattle.std.specs.Prelude.{vec_capacity}
 use Rattle.std.proofs.Math.ListN.{set}
 use Rattle.std.proofs.lemmas.Bool.{cases_eq}

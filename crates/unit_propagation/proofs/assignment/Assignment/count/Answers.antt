@@ -1,5 +1,5 @@
 -- The values of the trail's variables tell a literal from its negation.
-use Rattle.std.proofs.Common.{List, ap, subst}
+use Rattle.std.proofs.Common.{subst}
 use Rattle.std.specs.Prelude.{Contains}
 use Rattle.cnf_core.specs.declared.formula.Lit.{Lit}
 use Rattle.cnf_core.specs.Literal.{denial}

@@ -1,10 +1,9 @@
 -- A new variable is open, so that the values go on agreeing with the trail.
 use Rattle.std.proofs.Common.{◌≡◌, ◌+◌, List, ap, sym, ◌∙◌, subst, arith, length}
 use Rattle.std.proofs.lemmas.List.{length_push}
-use Rattle.cnf_core.specs.declared.formula.Lit.{Lit}
 use Rattle.unit_propagation.specs.declared.assignment.Truth.{Truth}
 use Rattle.unit_propagation.specs.declared.assignment.Truth.TheVariants.{Open}
-use Rattle.unit_propagation.specs.Assigned.{Assigned, Agrees}
+use Rattle.unit_propagation.specs.Assigned.{Agrees}
 use Rattle.unit_propagation.proofs.AgreesLemmas.{agrees_grow}
 use Rattle.unit_propagation.proofs.assignment.Assignment.grow.Goals as goal
 

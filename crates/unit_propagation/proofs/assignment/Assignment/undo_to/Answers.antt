@@ -1,8 +1,7 @@
 -- The last literal leaves the trail and its variable is opened, until as many are left as wanted.
-use Rattle.std.proofs.Common.{◌≡◌, ◌∷◌, [], ◌++◌, ◌<◌, ℕ, List, ap, sym, ◌∙◌, subst, arith, length, take, min, length-append, ◌+◌}
+use Rattle.std.proofs.Common.{◌≡◌, ◌∷◌, [], ◌++◌, ◌<◌, List, ap, sym, ◌∙◌, subst, arith, length, take, min, length-append, ◌+◌}
 use Rattle.std.proofs.lemmas.List.{length-take, length-set, take_all, take-append-le}
 use Rattle.std.proofs.lemmas.List.Elements.{All-contains, Contains-push}
-use Rattle.cnf_core.specs.declared.formula.Lit.{Lit}
 use Rattle.unit_propagation.specs.declared.assignment.Truth.TheVariants.{Open}
 use Rattle.unit_propagation.specs.declared.assignment.Cause.{Cause}
 use Rattle.unit_propagation.specs.Assigned.{Assigned, Agrees}

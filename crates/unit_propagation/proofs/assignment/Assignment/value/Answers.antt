@@ -42,4 +42,3 @@ returns-in-True-true-2 c =
     sym read ∙ c.in-True-true.is-0 ∙ ap truth_of (sym c.in-True-true.is-1) in
     subst (λ (trail : List Lit). StandsAs trail c.args.l True) (ap (λ (a : Assigned). a.trail) c.self.view_is)
     (stands_true c.self.inside.values.items c.self.inside.trail.items c.args.l c.self.invariant.agrees here)
-

@@ -1,9 +1,6 @@
 -- The new clause is watched at literals that are not false, or propagation begins again.
-use Rattle.std.proofs.Common.{◌≡◌, ◌++◌, ◌∷◌, [], ℕ, List, length, refl, ap, sym, ◌∙◌, subst, arith}
-use Rattle.cnf_core.specs.declared.formula.Lit.{Lit}
-use Rattle.unit_propagation.specs.declared.pair.Pair.{Pair}
+use Rattle.std.proofs.Common.{◌≡◌, ◌++◌, ◌∷◌, [], ℕ, List, length, refl, ap, sym, subst, arith}
 use Rattle.unit_propagation.specs.Loose.{IsOne, NotesLoose}
-use Rattle.unit_propagation.specs.PropagatorFields.{IsState}
 use Rattle.unit_propagation.proofs.StateLemmas.{state_is, state_grows, state_more_free, state_more_anew}
 use Rattle.unit_propagation.proofs.propagator.Propagator.add_clause.Goals as goal
 

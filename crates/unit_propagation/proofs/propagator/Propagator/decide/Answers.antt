@@ -1,9 +1,6 @@
 -- Where the head is at the end of the trail propagation had ended there.
-use Rattle.std.proofs.Common.{◌≡◌, ◌++◌, ◌∷◌, [], ℕ, true, refl, List, None, length, ap, sym, ◌∙◌, subst, arith}
+use Rattle.std.proofs.Common.{◌++◌, ◌∷◌, [], refl, sym, ◌∙◌, arith}
 use Rattle.std.proofs.lemmas.Bool.{eqb-true}
-use Rattle.cnf_core.specs.declared.formula.Lit.{Lit}
-use Rattle.unit_propagation.specs.declared.assignment.Cause.{Cause}
-use Rattle.unit_propagation.specs.PropagatorFields.{IsState}
 use Rattle.unit_propagation.proofs.StateLemmas.{state_decides, state_is}
 use Rattle.unit_propagation.proofs.propagator.Propagator.decide.Goals as goal
 

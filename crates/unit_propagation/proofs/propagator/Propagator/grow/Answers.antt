@@ -1,5 +1,5 @@
 -- More variables change nothing else.
-use Rattle.std.proofs.Common.{◌≡◌, ◌≤◌, sym, ap, arith}
+use Rattle.std.proofs.Common.{sym, arith}
 use Rattle.unit_propagation.proofs.StateLemmas.{state_is, state_grows}
 use Rattle.unit_propagation.proofs.propagator.Propagator.grow.Goals as goal
 

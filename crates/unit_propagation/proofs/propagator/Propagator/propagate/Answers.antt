@@ -1,5 +1,5 @@
 -- First the clauses of one literal are looked at, then those that watch what is denied; at the end the trail is the least closed set.
-use Rattle.std.proofs.Common.{◌≡◌, ◌≤◌, ◌++◌, ℕ, Option, Some, None, List, length, take, refl, ap, sym, ◌∙◌, subst, arith}
+use Rattle.std.proofs.Common.{◌≡◌, ℕ, Option, Some, None, List, length, take, refl, sym, ◌∙◌, subst, arith}
 use Rattle.std.specs.Prelude.{All, Contains, IfSome, IfNone}
 use Rattle.std.proofs.lemmas.List.{take_all, length-map}
 use Rattle.std.proofs.lemmas.List.Elements.{Contains-append_left}
@@ -10,7 +10,7 @@ use Rattle.unit_propagation.specs.declared.assignment.Cause.{Cause}
 use Rattle.unit_propagation.specs.Units.{IsConsistent}
 use Rattle.unit_propagation.specs.Trail.{decided, reasons_of, Implies}
 use Rattle.unit_propagation.specs.Watching.{Watched, IsIndexed}
-use Rattle.unit_propagation.specs.Ready.{AllReady, LooseAreTrue, KeepsReady}
+use Rattle.unit_propagation.specs.Ready.{AllReady, LooseAreTrue}
 use Rattle.unit_propagation.specs.Loose.{AreLoose, AreTrue}
 use Rattle.unit_propagation.specs.Propagated.{AreAllSet, IsFalseClause, SaysNothing}
 use Rattle.unit_propagation.specs.Propagation.{Propagation, decisions}
@@ -143,8 +143,8 @@ returns-clause-conflicts c =
     let Q = Conflicts c.args.self.now.clauses (decisions c.args.self.now) in
     if_some c.run.result (λ k. IsFalseClause w.clauses end.trail k) Q
     (λ k denied. subst (λ (p : Propagation). Conflicts p.clauses (decisions p)) c.self.view_is
-        (conflicts_false w.clauses (decided inside.row.trail (reasons_of inside.row.causes)) end.trail k
-        (are_set_since w.clauses w.pairs inside.row.trail end.trail inside.row.causes end.causes inside.head inside.loose.items c.self.invariant.1 (implied c)) denied))
+    (conflicts_false w.clauses (decided inside.row.trail (reasons_of inside.row.causes)) end.trail k
+    (are_set_since w.clauses w.pairs inside.row.trail end.trail inside.row.causes end.causes inside.head inside.loose.items c.self.invariant.1 (implied c)) denied))
     c.run.ensures.denied
 
 left : (c : goal.After-run) → c.run.new.head ≡ length c.run.new.row.trail → IsIndexed c.run.new.watched.width c.run.new.watched.clauses c.run.new.watched.pairs c.run.new.watched.lists →
@@ -160,8 +160,8 @@ returns-clause-all_set c =
     if_none c.run.result (c.run.new.head ≡ length end.trail) (IsIndexed c.run.new.watched.width c.run.new.watched.clauses c.run.new.watched.pairs c.run.new.watched.lists) (IsConsistent end.trail)
     (AreAllSet c.args.self.now.clauses (decisions c.args.self.now) end.trail)
     (λ at_end indexed consistent. subst (λ (p : Propagation). AreAllSet p.clauses (decisions p) end.trail) c.self.view_is
-        (all_set_fixed w.clauses (decided inside.row.trail (reasons_of inside.row.causes)) end.trail (decided_since w.clauses inside.row.trail end.trail inside.row.causes end.causes (implied c))
-        (are_set_since w.clauses w.pairs inside.row.trail end.trail inside.row.causes end.causes inside.head inside.loose.items c.self.invariant.1 (implied c)) (left c at_end indexed consistent)))
+    (all_set_fixed w.clauses (decided inside.row.trail (reasons_of inside.row.causes)) end.trail (decided_since w.clauses inside.row.trail end.trail inside.row.causes end.causes (implied c))
+    (are_set_since w.clauses w.pairs inside.row.trail end.trail inside.row.causes end.causes inside.head inside.loose.items c.self.invariant.1 (implied c)) (left c at_end indexed consistent)))
     c.run.ensures.ended c.run.ensures.indexed c.run.ensures.consistent
 
 pub returns-clause-none : goal.returns-clause-none
@@ -172,6 +172,6 @@ returns-clause-none c =
     if_none c.run.result (c.run.new.head ≡ length end.trail) (IsIndexed c.run.new.watched.width c.run.new.watched.clauses c.run.new.watched.pairs c.run.new.watched.lists) (IsConsistent end.trail)
     (Conflicts c.args.self.now.clauses (decisions c.args.self.now) → ⊥)
     (λ at_end indexed consistent conflicts. no_conflict_fixed w.clauses (decided inside.row.trail (reasons_of inside.row.causes)) end.trail
-        (decided_since w.clauses inside.row.trail end.trail inside.row.causes end.causes (implied c)) (left c at_end indexed consistent)
-        (subst (λ (p : Propagation). Conflicts p.clauses (decisions p)) (sym c.self.view_is) conflicts))
+    (decided_since w.clauses inside.row.trail end.trail inside.row.causes end.causes (implied c)) (left c at_end indexed consistent)
+    (subst (λ (p : Propagation). Conflicts p.clauses (decisions p)) (sym c.self.view_is) conflicts))
     c.run.ensures.ended c.run.ensures.indexed c.run.ensures.consistent

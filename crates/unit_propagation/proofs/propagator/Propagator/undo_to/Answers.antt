@@ -1,5 +1,5 @@
 -- The head goes back to where propagation had ended.
-use Rattle.std.proofs.Common.{◌≡◌, ℕ, take, length, ap, sym, ◌∙◌, arith}
+use Rattle.std.proofs.Common.{take, ap, sym, ◌∙◌, arith}
 use Rattle.std.proofs.lemmas.List.{take-map}
 use Rattle.unit_propagation.specs.declared.assignment.Cause.{Cause}
 use Rattle.unit_propagation.specs.Trail.{reasons_of}

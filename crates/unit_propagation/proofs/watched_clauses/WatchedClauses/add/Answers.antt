@@ -1,12 +1,12 @@
 -- There is room in the lists of the watched literals, and the clause is found there afterwards.
-use Rattle.std.proofs.Common.{◌≡◌, ◌≤◌, ◌<◌, ◌++◌, ◌∷◌, [], ℕ, List, Vec, Global, refl, ap, sym, ◌∙◌, subst, arith, map, length, get_or}
+use Rattle.std.proofs.Common.{◌≡◌, ◌≤◌, ◌<◌, ◌++◌, ◌∷◌, [], ℕ, List, Vec, Global, ap, sym, ◌∙◌, subst, arith, map, length, get_or}
 use Rattle.std.specs.Prelude.{vec_capacity, Contains, IsTrue}
 use Rattle.std.proofs.lemmas.List.{length-map}
 use Rattle.std.proofs.lemmas.List.Elements.{All-contains}
 use Rattle.cnf_core.specs.declared.formula.Lit.{Lit}
 use Rattle.unit_propagation.specs.declared.pair.Pair.{Pair}
 use Rattle.unit_propagation.specs.Units.{IsWithin}
-use Rattle.unit_propagation.specs.Watching.{Watched, IsIndexed, IsHeld, ListsRoom, ListsClause, code_of, list_at, watches}
+use Rattle.unit_propagation.specs.Watching.{Watched, IsIndexed, IsHeld, ListsRoom, ListsClause, code_of, watches}
 use Rattle.unit_propagation.proofs.PairLemmas.{code_below}
 use Rattle.unit_propagation.proofs.IndexedLemmas.{watch_count, indexed_more, held_more}
 use Rattle.unit_propagation.proofs.watched_clauses.WatchedClauses.add.Goals as goal

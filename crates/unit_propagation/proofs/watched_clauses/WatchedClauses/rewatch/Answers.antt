@@ -1,12 +1,11 @@
 -- The list that the clause comes to has room for it, and the clause is found by its new literals.
 use Rattle.std.proofs.Common.{◌≡◌, ◌≢◌, ◌≤◌, ◌<◌, ◌++◌, ◌∷◌, [], ℕ, List, Vec, Global, refl, ap, sym, ◌∙◌, subst, arith, map, length, get_or, inl, inr}
-use Rattle.std.specs.Prelude.{vec_capacity, Contains, IsTrue, swap_remove}
+use Rattle.std.specs.Prelude.{vec_capacity, swap_remove}
 use Rattle.std.proofs.Math.ListN.{set}
 use Rattle.std.proofs.lemmas.List.{length-map, length-set, map-set, get_or-set_other, get_or_default}
 use Rattle.std.proofs.lemmas.Option.{get_or_from_slice_get, slice_get_within}
 use Rattle.cnf_core.specs.declared.formula.Lit.{Lit}
-use Rattle.unit_propagation.specs.declared.pair.Pair.{Pair}
-use Rattle.unit_propagation.specs.Watching.{Watched, IsIndexed, IsHeld, MovesWatch, code_of, list_at, watches, pair_of}
+use Rattle.unit_propagation.specs.Watching.{Watched, IsIndexed, IsHeld, MovesWatch, code_of, list_at, pair_of}
 use Rattle.unit_propagation.proofs.PairLemmas.{code_below, code_same, other_only, watches_not}
 use Rattle.unit_propagation.proofs.ListLemmas.{map_read, set_keeps}
 use Rattle.unit_propagation.proofs.IndexedLemmas.{watch_count_less, indexed_moved, lists_moved, AreMoved}
@@ -34,7 +33,7 @@ left lists k place c old new r inside at is value within here =
     let f = λ (v : Vec ℕ Global). v.items in
     let same : r ≡ c = value ∙ get_or_default old.items place r c within ∙ here in
     map-set f lists k new ∙ ap (λ (xs : List ℕ). set (map f lists) k xs)
-        (is ∙ ap (λ (x : ℕ). swap_remove old.items place x) same ∙ ap (λ (xs : List ℕ). swap_remove xs place c) (map_read f lists k old [] inside at))
+    (is ∙ ap (λ (x : ℕ). swap_remove old.items place x) same ∙ ap (λ (xs : List ℕ). swap_remove xs place c) (map_read f lists k old [] inside at))
 
 inside_of : (w v : Watched) (c : ℕ) (from : Lit) (place : ℕ) (other to : Lit) → v ≡ w → MovesWatch w c from place other to → MovesWatch v c from place other to
 inside_of w v c from place other to same moves = subst (λ (x : Watched). MovesWatch x c from place other to) (sym same) moves
