@@ -3,7 +3,7 @@ use Rattle.std.proofs.Common.{◌≡◌, ◌≢◌, ◌⊎◌, ℕ, ◌<◌, ◌
 use Rattle.std.specs.Prelude.{IsTrue, All, Any, Contains}
 use Rattle.std.proofs.lemmas.Bool.{cases_Bool, cases_eq, both_ways}
 use Rattle.std.proofs.lemmas.List.{get_or-take, get_or_default, length-take-le}
-use Rattle.std.proofs.lemmas.List.Elements.{All-contains, Contains-get_or}
+use Rattle.std.proofs.lemmas.List.Elements.{All-contains, Contains-get_or, All-cons, All-tail}
 use Rattle.std.proofs.lemmas.Option.{get_or_from_slice_get, slice_get_within}
 use Rattle.cnf_core.specs.declared.formula.Lit.{Lit}
 use Rattle.cnf_core.specs.Literal.{denial, LitSet}
@@ -14,7 +14,7 @@ use Rattle.unit_propagation.specs.declared.pair.Pair.{Pair}
 use Rattle.unit_propagation.specs.Trail.{decided, IsJustified, Explains}
 use Rattle.unit_propagation.specs.Watching.{Watched, IsIndexed, has}
 use Rattle.unit_propagation.specs.Ready.{Ready, AllReady, LooseAreTrue}
-use Rattle.unit_propagation.specs.Propagated.{SaysNothing, AreAllSet, IsFalseClause}
+use Rattle.unit_propagation.specs.Propagated.{SaysNothing, AreAllSet, IsFalseClause, IsTotal, HasTrueLiterals}
 use Rattle.unit_propagation.proofs.PairLemmas.{has_contains, contains_has, watches_first, watches_second}
 
 reason_cases : (r : Option ℕ) → (r ≡ None) ⊎ ((c : ℕ) × (r ≡ Some c))
@@ -168,3 +168,16 @@ pub no_conflict_fixed : (clauses : List (List Lit)) (decisions trail : List Lit)
 no_conflict_fixed clauses decisions trail keeps fixed (k, clause, inside, at, sets) =
     let says : SaysNothing trail clause = subst (SaysNothing trail) at (fixed k clause inside) in
     says.0 (λ i d within. has_contains (denial (get_or clause i d)) trail (sets i d within (λ l. has l trail) (closed_fixed clauses decisions trail keeps fixed)))
+
+-- a clause whose variables are all set, and which is not false, has a true literal
+has_true : (trail clause : List Lit) → All (λ l. Contains trail l ⊎ Contains trail (denial l)) clause → (All (IsFalse trail) clause → ⊥) → Any (Contains trail) clause
+has_true trail [] total not_false = absurd (not_false (λ k d inside. absurd (omega arith)))
+has_true trail (x ∷ xs) total not_false = elim (total 0 x (omega arith)) [
+  | inl here ↦ (0, x, omega arith, refl, here)
+  | inr is_false ↦ later (has_true trail xs (All-tail (λ l. Contains trail l ⊎ Contains trail (denial l)) x xs total) (λ rest. not_false (All-cons (IsFalse trail) x xs is_false rest)))
+] where
+  later : Any (Contains trail) xs → Any (Contains trail) (x ∷ xs)
+  later (k, y, inside, at, is) = (suc k, y, omega arith, at, is)
+
+pub total_satisfied : (clauses : List (List Lit)) (trail : List Lit) → All (SaysNothing trail) clauses → IsTotal clauses trail → HasTrueLiterals clauses trail
+total_satisfied clauses trail fixed total c d inside = has_true trail (get_or clauses c d) (total c d inside) (fixed c d inside).0

@@ -1,11 +1,11 @@
 //! The propagator: clauses, the literals that were decided, and what follows from them.
 
-ghost use Rattle.std.specs.Prelude.{◌≡◌, ◌<◌, ◌≤◌, ◌^◌, [], Some, All, IfSome, IfNone, OnOk, OnErr, length, slice_get};
+ghost use Rattle.std.specs.Prelude.{◌≡◌, ◌<◌, ◌≤◌, ◌^◌, ℕ, [], Some, All, IfSome, IfNone, OnOk, OnErr, length, slice_get};
 ghost use Rattle.cnf_core.specs.Propagation.{Conflicts};
 ghost use Rattle.unit_propagation.specs.Trail.{IsJustified};
 ghost use Rattle.unit_propagation.specs.Units.{IsOpen, IsWithin, IsConsistent};
 ghost use Rattle.unit_propagation.specs.Assigned.{StandsAs};
-ghost use Rattle.unit_propagation.specs.Propagated.{AreAllSet, IsFalseClause};
+ghost use Rattle.unit_propagation.specs.Propagated.{AreAllSet, IsFalseClause, IsTotal, HasTrueLiterals};
 ghost use Rattle.unit_propagation.specs.Propagation.{decisions, with_clause, with_decision, undone, Continues, ExplainsPlace, IsEnd};
 
 use crate::assignment::{Assignment, Cause, Truth};
@@ -59,6 +59,7 @@ impl Propagator {
         requires { width < 2 ^ 62 }
         ensures grown { OnOk result (width ≤ self.new.width) }
         ensures keeps { self.old.width ≤ self.new.width }
+        ensures most { (n : ℕ) → self.old.width ≤ n → width ≤ n → self.new.width ≤ n }
         ensures clauses { self.new.clauses ≡ self.old.clauses }
         ensures trail { self.new.trail ≡ self.old.trail }
         ensures reasons { self.new.reasons ≡ self.old.reasons }
@@ -108,6 +109,7 @@ impl Propagator {
         ensures conflict { IfSome result (λ c. IsFalseClause self.new.clauses self.new.trail c) }
         ensures conflicts { IfSome result (λ _. Conflicts self.old.clauses (decisions self.old)) }
         ensures all_set { IfNone result (AreAllSet self.old.clauses (decisions self.old) self.new.trail) }
+        ensures satisfied { IfNone result (IsTotal self.new.clauses self.new.trail → HasTrueLiterals self.new.clauses self.new.trail) }
         ensures none { IfNone result (¬ Conflicts self.old.clauses (decisions self.old)) }
     {
         if let Some(clause) = set_loose(

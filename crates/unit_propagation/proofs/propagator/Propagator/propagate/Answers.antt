@@ -12,11 +12,11 @@ use Rattle.unit_propagation.specs.Trail.{decided, reasons_of, Implies}
 use Rattle.unit_propagation.specs.Watching.{Watched, IsIndexed}
 use Rattle.unit_propagation.specs.Ready.{AllReady, LooseAreTrue}
 use Rattle.unit_propagation.specs.Loose.{AreLoose, AreTrue}
-use Rattle.unit_propagation.specs.Propagated.{AreAllSet, IsFalseClause, SaysNothing}
+use Rattle.unit_propagation.specs.Propagated.{AreAllSet, IsFalseClause, SaysNothing, IsTotal, HasTrueLiterals}
 use Rattle.unit_propagation.specs.Propagation.{Propagation, decisions}
 use Rattle.unit_propagation.specs.PropagatorFields.{IsState}
 use Rattle.unit_propagation.proofs.TrailLemmas.{implies_then}
-use Rattle.unit_propagation.proofs.FixpointLemmas.{are_set, conflicts_false, fixed, all_set_fixed, no_conflict_fixed, decided_within}
+use Rattle.unit_propagation.proofs.FixpointLemmas.{are_set, conflicts_false, fixed, all_set_fixed, no_conflict_fixed, decided_within, total_satisfied}
 use Rattle.unit_propagation.proofs.StateLemmas.{state_set, state_continues, state_grows, loose_true, lists_kept, continues_is}
 use Rattle.unit_propagation.proofs.propagator.Propagator.propagate.Goals as goal
 
@@ -174,4 +174,14 @@ returns-clause-none c =
     (λ at_end indexed consistent conflicts. no_conflict_fixed w.clauses (decided inside.row.trail (reasons_of inside.row.causes)) end.trail
     (decided_since w.clauses inside.row.trail end.trail inside.row.causes end.causes (implied c)) (left c at_end indexed consistent)
     (subst (λ (p : Propagation). Conflicts p.clauses (decisions p)) (sym c.self.view_is) conflicts))
+    c.run.ensures.ended c.run.ensures.indexed c.run.ensures.consistent
+
+pub returns-clause-satisfied : goal.returns-clause-satisfied
+returns-clause-satisfied c =
+    let w = c.self.inside.watched in
+    let end = c.run.new.row in
+    if_none c.run.result (c.run.new.head ≡ length end.trail) (IsIndexed c.run.new.watched.width c.run.new.watched.clauses c.run.new.watched.pairs c.run.new.watched.lists) (IsConsistent end.trail)
+    (IsTotal c.run.new.watched.clauses end.trail → HasTrueLiterals c.run.new.watched.clauses end.trail)
+    (λ at_end indexed consistent. total_satisfied c.run.new.watched.clauses end.trail
+    (subst (All (SaysNothing end.trail)) (sym c.run.ensures.clauses) (left c at_end indexed consistent)))
     c.run.ensures.ended c.run.ensures.indexed c.run.ensures.consistent
