@@ -1,7 +1,10 @@
 -- How the fields of an assignment fit together.
 use Rattle.std.specs.Prelude.{◌≡◌, ◌≤◌, length, vec_capacity}
-use Rattle.unit_propagation.specs.Assigned.{Agrees}
+use Rattle.unit_propagation.specs.Assigned.{Assigned, Agrees}
 use Rattle.unit_propagation.specs.declared.assignment.Assignment.TheInside.{Inside}
+
+abbrev pub assigned_of : Inside → Assigned
+assigned_of a = record { width = length a.values.items; trail = a.trail.items; causes = a.causes.items }
 
 -- the values agree with the trail, each literal has its cause, and there is room for each variable
 pub record IsAssignment (a : Inside) : Type 0 where

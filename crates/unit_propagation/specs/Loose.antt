@@ -19,6 +19,13 @@ abbrev pub ListsLoose : List Pair → List ℕ → Type 0
 ListsLoose pairs loose =
     (c : ℕ) (p : Pair) → c < length pairs → (slice_index_or pairs c p).first ≡ (slice_index_or pairs c p).second → Contains loose c
 
+-- the clause is false, or has a true literal
+abbrev pub IsDenied : List (List Lit) → List Lit → ℕ → Type 0
+IsDenied clauses trail c = All (IsFalse trail) (slice_index_or clauses c [])
+
+abbrev pub HasTrue : List (List Lit) → List Lit → ℕ → Type 0
+HasTrue clauses trail c = Any (Contains trail) (slice_index_or clauses c [])
+
 -- each of the clauses has a true literal
 abbrev pub AreTrue : List (List Lit) → List ℕ → List Lit → Type 0
 AreTrue clauses loose trail = All (λ c. (clause : List Lit) → Any (Contains trail) (slice_index_or clauses c clause)) loose
@@ -39,3 +46,7 @@ IsAnyPair clause p =
 -- the clause goes to the end of the list where no two of its literals are watched
 abbrev pub NotesLoose : Pair → ℕ → List ℕ → List ℕ → Type 0
 NotesLoose p c old new = ((p.first ≡ p.second) × (new ≡ old ++ c ∷ [])) ⊎ ((p.first ≢ p.second) × (new ≡ old))
+
+-- a literal of the clause that is not this one, or this one where there is no other
+abbrev pub IsDiffering : List Lit → Lit → Lit → Type 0
+IsDiffering clause l k = (Contains clause k × (k ≢ l)) ⊎ ((k ≡ l) × All (λ m. m ≡ l) clause)

@@ -2,6 +2,7 @@
 use Rattle.std.specs.Prelude.{◌≡◌, ℕ, ◌++◌, ◌∷◌, [], List, Option, None, take, slice_index_or, ◌≤◌, true, ◌⊎◌}
 use Rattle.cnf_core.specs.declared.formula.Lit.{Lit}
 use Rattle.unit_propagation.specs.Trail.{decided, Explains}
+use Rattle.unit_propagation.specs.Propagated.{AreAllSet, IsTotal, HasTrueLiterals}
 use Rattle.unit_propagation.specs.declared.assignment.Cause.{Cause}
 
 -- variable numbers are below `width`; a literal of the trail without a reason was decided
@@ -43,3 +44,11 @@ ExplainsPlace p place c = (l : Lit) → Explains p.clauses p.trail place c (slic
 -- propagation had ended at the place, or it is the start
 abbrev pub IsEnd : List Cause → ℕ → ℕ → Type 0
 IsEnd causes place end = (end ≤ place) × ((end ≡ 0) ⊎ ((c : Cause) → (slice_index_or causes end c).ended ≡ true))
+
+-- the trail is the least closed set that has what was decided before
+abbrev pub IsFull : Propagation → Propagation → Type 0
+IsFull old new = AreAllSet old.clauses (decisions old) new.trail
+
+-- where each variable is set, each clause has a true literal
+abbrev pub IsSatisfiedIfTotal : Propagation → Type 0
+IsSatisfiedIfTotal p = IsTotal p.clauses p.trail → HasTrueLiterals p.clauses p.trail

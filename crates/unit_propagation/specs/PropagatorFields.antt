@@ -4,6 +4,7 @@ use Rattle.cnf_core.specs.declared.formula.Lit.{Lit}
 use Rattle.unit_propagation.specs.declared.pair.Pair.{Pair}
 use Rattle.unit_propagation.specs.declared.assignment.Cause.{Cause}
 use Rattle.unit_propagation.specs.Trail.{IsJustified, reasons_of}
+use Rattle.unit_propagation.specs.Propagation.{Propagation}
 use Rattle.unit_propagation.specs.Ready.{AllReady, EndsReady}
 use Rattle.unit_propagation.specs.Loose.{AreLoose, ListsLoose}
 use Rattle.unit_propagation.specs.declared.propagator.Propagator.TheInside.{Inside}
@@ -18,6 +19,14 @@ pub record IsState (clauses : List (List Lit)) (pairs : List Pair) (trail : List
   pub justified : IsJustified clauses trail (reasons_of causes)
   pub listed : ListsLoose pairs loose
   pub are_loose : AreLoose clauses loose
+
+abbrev pub propagation_of : Inside → Propagation
+propagation_of a = record {
+  width = a.watched.width;
+  clauses = a.watched.clauses;
+  trail = a.row.trail;
+  reasons = reasons_of a.row.causes;
+}
 
 abbrev pub IsPropagator : Inside → Type 0
 IsPropagator a =

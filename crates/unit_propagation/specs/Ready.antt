@@ -1,10 +1,10 @@
 -- How far clauses were looked at: one has a true literal, or neither of its watched literals was denied so far.
-use Rattle.std.specs.Prelude.{◌≡◌, ◌≢◌, ◌<◌, ◌⊎◌, ℕ, List, true, false, Any, All, Contains, length, take, slice_set, slice_index_or, swap_remove}
+use Rattle.std.specs.Prelude.{◌≡◌, ◌≢◌, ◌<◌, ◌+◌, ◌⊎◌, ℕ, List, true, false, Any, All, Contains, length, take, slice_set, slice_index_or, swap_remove}
 use Rattle.cnf_core.specs.declared.formula.Lit.{Lit}
 use Rattle.unit_propagation.specs.Units.{IsFalse}
 use Rattle.unit_propagation.specs.Assigned.{Assigned}
 use Rattle.unit_propagation.specs.Trail.{Implies}
-use Rattle.unit_propagation.specs.Watching.{Watched, IsOther, pair_of, list_at, watches}
+use Rattle.unit_propagation.specs.Watching.{Watched, IsIndexed, IsOther, pair_of, list_at, watches}
 use Rattle.unit_propagation.specs.declared.pair.Pair.{Pair}
 use Rattle.unit_propagation.specs.declared.assignment.Cause.{Cause}
 use Rattle.unit_propagation.specs.declared.propagation.Seen.{Seen}
@@ -17,6 +17,22 @@ Ready trail past p clause = Any (Contains trail) clause ⊎ (¬ IsFalse past p.f
 abbrev pub AllReady : List (List Lit) → List Pair → List Lit → List Lit → Type 0
 AllReady clauses pairs trail past =
     (c : ℕ) (p : Pair) (clause : List Lit) → c < length pairs → Ready trail past (slice_index_or pairs c p) (slice_index_or clauses c clause)
+
+-- of the literals of the trail those before a place were looked at
+abbrev pub ReadyTo : List (List Lit) → List Pair → List Lit → ℕ → Type 0
+ReadyTo clauses pairs trail n = AllReady clauses pairs trail (take n trail)
+
+-- and the one at it
+abbrev pub ReadyPast : Watched → Watched → List Lit → ℕ → Type 0
+ReadyPast old new trail n = ReadyTo old.clauses new.pairs trail (n + 1)
+
+-- literals that follow were set
+abbrev pub Implied : List (List Lit) → Assigned → Assigned → Type 0
+Implied clauses a b = Implies clauses a.trail a.causes b.trail b.causes
+
+-- the lists name the clauses that watch their literals
+abbrev pub IsWhole : Watched → Type 0
+IsWhole w = IsIndexed w.width w.clauses w.pairs w.lists
 
 -- clauses of which no two literals are watched have a true one
 abbrev pub LooseAreTrue : List (List Lit) → List Pair → List Lit → Type 0
@@ -31,6 +47,10 @@ pub record KeepsReady (clauses : List (List Lit)) (old new : List Pair) (trail :
   pub loose : (part : List Lit) → LooseAreTrue clauses old part → LooseAreTrue clauses new part
   pub pairs : (c : ℕ) (p : Pair) → c < length new → (slice_index_or new c p).first ≡ (slice_index_or new c p).second →
       (slice_index_or old c p).first ≡ (slice_index_or old c p).second
+
+-- watches of the same clauses moved so
+abbrev pub KeepsAll : Watched → Watched → List Lit → Type 0
+KeepsAll w new trail = KeepsReady w.clauses w.pairs new.pairs trail
 
 -- the clause at a place of the denied literal's list
 abbrev pub clause_at : Watched → Lit → ℕ → ℕ

@@ -45,14 +45,13 @@ pub struct Assignment {
 }
 
 impl Model for Assignment {
-    ghost use Rattle.std.specs.Prelude.{length};
     ghost use Rattle.unit_propagation.specs.Assigned.{Assigned};
 
     ghost Value = { Assigned };
 
-    ghost use Rattle.unit_propagation.specs.Fields.{IsAssignment};
+    ghost use Rattle.unit_propagation.specs.Fields.{IsAssignment, assigned_of};
 
-    ghost view = { λ a. record { width = length a.values.items; trail = a.trail.items; causes = a.causes.items } };
+    ghost view = { assigned_of };
 
     ghost invariant = { IsAssignment };
 }

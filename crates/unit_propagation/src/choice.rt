@@ -4,7 +4,7 @@ ghost use Rattle.std.specs.Prelude.{◌≡◌, ◌≢◌, ◌⊎◌, true, All, 
 ghost use Rattle.cnf_core.specs.declared.formula.Lit.{Lit as Literal};
 ghost use Rattle.unit_propagation.specs.Units.{IsFalse, IsWithin};
 ghost use Rattle.unit_propagation.specs.Watching.{watches};
-ghost use Rattle.unit_propagation.specs.Loose.{IsOne, IsFreePair, IsAnyPair};
+ghost use Rattle.unit_propagation.specs.Loose.{IsOne, IsFreePair, IsAnyPair, IsDiffering};
 
 use crate::assignment::Assignment;
 use crate::pair::Pair;
@@ -84,7 +84,7 @@ fn any_pair(clause: &[Lit]) -> Pair
 
 /// A literal that is not this one, or this one where there is no other.
 fn differing(clause: &[Lit], l: Lit) -> Lit
-    ensures { (Contains clause.now result × (result ≢ l)) ⊎ ((result ≡ l) × All (λ k. k ≡ l) clause.now) }
+    ensures { IsDiffering clause.now l result }
 {
     for k in clause {
         if *k != l {

@@ -1,10 +1,10 @@
 //! Clauses without two different literals: their literal is set, as soon as propagation begins.
 
-ghost use Rattle.std.specs.Prelude.{◌≡◌, ◌<◌, ◌≤◌, [], All, Any, Contains, IfSome, IfNone, vec_len, vec_capacity, slice_index_or};
+ghost use Rattle.std.specs.Prelude.{◌≡◌, ◌<◌, All, IfSome, IfNone, vec_len, vec_capacity};
 ghost use Rattle.std.specs.Bool.{OnTrue, OnFalse};
-ghost use Rattle.unit_propagation.specs.Units.{IsFalse, IsWithin};
-ghost use Rattle.unit_propagation.specs.Trail.{Implies};
-ghost use Rattle.unit_propagation.specs.Loose.{IsLoose, AreLoose, AreTrue, NotesLoose};
+ghost use Rattle.unit_propagation.specs.Units.{IsWithin};
+ghost use Rattle.unit_propagation.specs.Ready.{Implied};
+ghost use Rattle.unit_propagation.specs.Loose.{IsLoose, AreLoose, AreTrue, HasTrue, IsDenied, NotesLoose};
 ghost use Rattle.unit_propagation.specs.Propagated.{IsFalseClause};
 
 use crate::assignment::{Assignment, Cause, Truth};
@@ -16,7 +16,7 @@ pub fn set_loose(clauses: &[Clause], row: &mut Assignment, loose: &[usize]) -> O
     requires within { All (IsWithin row.old.width) clauses.now }
     requires loose { AreLoose clauses.now loose.now }
     ensures width { row.new.width ≡ row.old.width }
-    ensures implies { Implies clauses.now row.old.trail row.old.causes row.new.trail row.new.causes }
+    ensures implies { Implied clauses.now row.old row.new }
     ensures denied { IfSome result (λ c. IsFalseClause clauses.now row.new.trail c) }
     ensures are_true { IfNone result (AreTrue clauses.now loose.now row.new.trail) }
 {
@@ -33,9 +33,9 @@ fn is_denied(clauses: &[Clause], row: &mut Assignment, number: usize) -> bool
     requires within { All (IsWithin row.old.width) clauses.now }
     requires loose { IsLoose clauses.now number }
     ensures width { row.new.width ≡ row.old.width }
-    ensures implies { Implies clauses.now row.old.trail row.old.causes row.new.trail row.new.causes }
-    ensures denied { OnTrue result (All (IsFalse row.new.trail) (slice_index_or clauses.now number [])) }
-    ensures is_true { OnFalse result (Any (Contains row.new.trail) (slice_index_or clauses.now number [])) }
+    ensures implies { Implied clauses.now row.old row.new }
+    ensures denied { OnTrue result (IsDenied clauses.now row.new.trail number) }
+    ensures is_true { OnFalse result (HasTrue clauses.now row.new.trail number) }
 {
     let Some(l) = clauses[number].as_slice().first() else {
         return true;

@@ -1,11 +1,10 @@
 //! Propagation along the trail: a clause whose watched literal is denied looks for another one to watch, and where
 //! there is none it sets its other watched literal or is false.
 
-ghost use Rattle.std.specs.Prelude.{◌≡◌, ◌≢◌, ◌<◌, ◌≤◌, ◌+◌, ◌↔◌, All, IsTrue, IfSome, IfNone, length, take};
+ghost use Rattle.std.specs.Prelude.{◌≡◌, ◌≢◌, ◌<◌, ◌≤◌, ◌↔◌, All, IsTrue, IfSome, IfNone, length};
 ghost use Rattle.unit_propagation.specs.Units.{IsFalse, IsFree, IsWithin, IsConsistent};
-ghost use Rattle.unit_propagation.specs.Trail.{Implies};
-ghost use Rattle.unit_propagation.specs.Watching.{list_at, IsIndexed};
-ghost use Rattle.unit_propagation.specs.Ready.{AllReady, LooseAreTrue, KeepsReady, IsSeen};
+ghost use Rattle.unit_propagation.specs.Watching.{list_at};
+ghost use Rattle.unit_propagation.specs.Ready.{LooseAreTrue, KeepsAll, Implied, IsSeen, IsWhole, ReadyTo, ReadyPast};
 ghost use Rattle.unit_propagation.specs.Propagated.{IsFalseClause};
 
 use crate::assignment::{Assignment, Cause, Truth};
@@ -28,20 +27,20 @@ pub enum Seen {
 pub fn run(watched: &mut WatchedClauses, row: &mut Assignment, head: &mut usize) -> Option<usize>
     requires width { watched.old.width ≤ row.old.width }
     requires head { head.old ≤ length row.old.trail }
-    requires ready { AllReady watched.old.clauses watched.old.pairs row.old.trail (take head.old row.old.trail) }
+    requires ready { ReadyTo watched.old.clauses watched.old.pairs row.old.trail head.old }
     requires loose { LooseAreTrue watched.old.clauses watched.old.pairs row.old.trail }
-    requires indexed { IsIndexed watched.old.width watched.old.clauses watched.old.pairs watched.old.lists }
+    requires indexed { IsWhole watched.old }
     ensures width { watched.new.width ≡ watched.old.width }
     ensures row_width { row.new.width ≡ row.old.width }
     ensures clauses { watched.new.clauses ≡ watched.old.clauses }
-    ensures implies { Implies watched.old.clauses row.old.trail row.old.causes row.new.trail row.new.causes }
-    ensures keeps { KeepsReady watched.old.clauses watched.old.pairs watched.new.pairs row.old.trail }
-    ensures ready { AllReady watched.old.clauses watched.new.pairs row.new.trail (take head.new row.new.trail) }
+    ensures implies { Implied watched.old.clauses row.old row.new }
+    ensures keeps { KeepsAll watched.old watched.new row.old.trail }
+    ensures ready { ReadyTo watched.old.clauses watched.new.pairs row.new.trail head.new }
     ensures head { head.new ≤ length row.new.trail }
     ensures ended { IfNone result (head.new ≡ length row.new.trail) }
     ensures denied { IfSome result (λ c. IsFalseClause watched.old.clauses row.new.trail c) }
     ensures loose { LooseAreTrue watched.old.clauses watched.new.pairs row.new.trail }
-    ensures indexed { IfNone result (IsIndexed watched.new.width watched.new.clauses watched.new.pairs watched.new.lists) }
+    ensures indexed { IfNone result (IsWhole watched.new) }
     ensures consistent { IfNone result (IsConsistent row.new.trail) }
 {
     while *head < row.count() {
@@ -58,18 +57,18 @@ pub fn run(watched: &mut WatchedClauses, row: &mut Assignment, head: &mut usize)
 fn visit(watched: &mut WatchedClauses, row: &mut Assignment, head: usize) -> Option<usize>
     requires width { watched.old.width ≤ row.old.width }
     requires head { head < length row.old.trail }
-    requires ready { AllReady watched.old.clauses watched.old.pairs row.old.trail (take head row.old.trail) }
+    requires ready { ReadyTo watched.old.clauses watched.old.pairs row.old.trail head }
     requires loose { LooseAreTrue watched.old.clauses watched.old.pairs row.old.trail }
     ensures width { watched.new.width ≡ watched.old.width }
     ensures row_width { row.new.width ≡ row.old.width }
     ensures clauses { watched.new.clauses ≡ watched.old.clauses }
-    ensures implies { Implies watched.old.clauses row.old.trail row.old.causes row.new.trail row.new.causes }
-    ensures keeps { KeepsReady watched.old.clauses watched.old.pairs watched.new.pairs row.old.trail }
-    ensures ready { AllReady watched.old.clauses watched.new.pairs row.new.trail (take head row.new.trail) }
-    ensures next { IfNone result (AllReady watched.old.clauses watched.new.pairs row.new.trail (take (head + 1) row.new.trail)) }
+    ensures implies { Implied watched.old.clauses row.old row.new }
+    ensures keeps { KeepsAll watched.old watched.new row.old.trail }
+    ensures ready { ReadyTo watched.old.clauses watched.new.pairs row.new.trail head }
+    ensures next { IfNone result (ReadyPast watched.old watched.new row.new.trail head) }
     ensures denied { IfSome result (λ c. IsFalseClause watched.old.clauses row.new.trail c) }
     ensures loose { LooseAreTrue watched.old.clauses watched.new.pairs row.new.trail }
-    ensures indexed { IfNone result (IsIndexed watched.new.width watched.new.clauses watched.new.pairs watched.new.lists) }
+    ensures indexed { IfNone result (IsWhole watched.new) }
 {
     let denied = row.nth(head).denied();
     if watched.width() <= denied.var as usize {

@@ -5,8 +5,9 @@ ghost use Rattle.cnf_core.specs.Propagation.{Conflicts};
 ghost use Rattle.unit_propagation.specs.Trail.{IsJustified};
 ghost use Rattle.unit_propagation.specs.Units.{IsOpen, IsWithin, IsConsistent};
 ghost use Rattle.unit_propagation.specs.Assigned.{StandsAs};
-ghost use Rattle.unit_propagation.specs.Propagated.{AreAllSet, IsFalseClause, IsTotal, HasTrueLiterals};
+ghost use Rattle.unit_propagation.specs.Propagated.{IsFalseClause};
 ghost use Rattle.unit_propagation.specs.Propagation.{decisions, with_clause, with_decision, undone, Continues, ExplainsPlace, IsEnd};
+ghost use Rattle.unit_propagation.specs.Propagation.{IsFull, IsSatisfiedIfTotal};
 
 use crate::assignment::{Assignment, Cause, Truth};
 use crate::choice::Choice;
@@ -28,14 +29,13 @@ pub struct Propagator {
 }
 
 impl Model for Propagator {
-    ghost use Rattle.unit_propagation.specs.Trail.{reasons_of};
     ghost use Rattle.unit_propagation.specs.Propagation.{Propagation};
 
     ghost Value = { Propagation };
 
-    ghost use Rattle.unit_propagation.specs.PropagatorFields.{IsPropagator};
+    ghost use Rattle.unit_propagation.specs.PropagatorFields.{IsPropagator, propagation_of};
 
-    ghost view = { λ a. record { width = a.watched.width; clauses = a.watched.clauses; trail = a.row.trail; reasons = reasons_of a.row.causes } };
+    ghost view = { propagation_of };
 
     ghost invariant = { IsPropagator };
 }
@@ -108,8 +108,8 @@ impl Propagator {
         ensures continues { Continues self.old self.new }
         ensures conflict { IfSome result (λ c. IsFalseClause self.new.clauses self.new.trail c) }
         ensures conflicts { IfSome result (λ _. Conflicts self.old.clauses (decisions self.old)) }
-        ensures all_set { IfNone result (AreAllSet self.old.clauses (decisions self.old) self.new.trail) }
-        ensures satisfied { IfNone result (IsTotal self.new.clauses self.new.trail → HasTrueLiterals self.new.clauses self.new.trail) }
+        ensures all_set { IfNone result (IsFull self.old self.new) }
+        ensures satisfied { IfNone result (IsSatisfiedIfTotal self.new) }
         ensures none { IfNone result (¬ Conflicts self.old.clauses (decisions self.old)) }
     {
         if let Some(clause) = set_loose(

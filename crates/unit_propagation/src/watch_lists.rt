@@ -1,8 +1,9 @@
 //! The lists of clauses by their watched literals, and the room in them.
 
-ghost use Rattle.std.specs.Prelude.{◌≡◌, ◌<◌, ◌≤◌, ◌++◌, ◌∷◌, [], ℕ, All, OnOk, Contains, length, map, vec_capacity, slice_index_or, slice_set};
-ghost use Rattle.cnf_core.specs.declared.formula.Lit.{Lit as Literal};
-ghost use Rattle.unit_propagation.specs.Watching.{code_of, list_at, HasRoom, ListsClause, ListsRoom};
+ghost use Rattle.std.specs.Prelude.{◌≡◌, ◌<◌, ◌≤◌, ℕ, All, OnOk, length, slice_index_or};
+ghost use Rattle.unit_propagation.specs.Watching.{code_of, appended, items_of, rooms_of};
+ghost use Rattle.unit_propagation.specs.Watching.{AtMost, Fits, Grows, HasLess, HasRoom};
+ghost use Rattle.unit_propagation.specs.Watching.{ListsClause, ListsRoom, SameLists};
 
 use crate::pair::Pair;
 use cnf_core::Lit;
@@ -19,8 +20,8 @@ pub fn code(l: Lit) -> usize
 pub fn add_lists(alloc: Global, lists: &mut Vec<Vec<usize>>, count: usize) -> Result<(), AllocError>
     ensures size { OnOk result (count ≤ length lists.new.items) }
     ensures longer { length lists.old.items ≤ length lists.new.items }
-    ensures same { (l : Literal) → list_at (map (λ v. v.items) lists.new.items) l ≡ list_at (map (λ v. v.items) lists.old.items) l }
-    ensures rooms { (i : ℕ) → slice_index_or (map (λ v. vec_capacity v) lists.old.items) i 0 ≤ slice_index_or (map (λ v. vec_capacity v) lists.new.items) i 0 }
+    ensures same { SameLists (items_of lists.old.items) (items_of lists.new.items) }
+    ensures rooms { AtMost (rooms_of lists.old.items) (rooms_of lists.new.items) }
 {
     for _ in lists.len()..count {
         lists.push(Vec::new(alloc))?;
@@ -48,12 +49,12 @@ pub fn make_room(
 ) -> Result<(), AllocError>
     requires lists { All (λ l. code_of l < length lists.old.items) clause.now }
     requires numbers { All (λ l. code_of l < length held.old.items) clause.now }
-    requires room { HasRoom held.old.items (map (λ v. vec_capacity v) lists.old.items) }
-    ensures lists { map (λ v. v.items) lists.new.items ≡ map (λ v. v.items) lists.old.items }
+    requires room { HasRoom held.old.items (rooms_of lists.old.items) }
+    ensures lists { items_of lists.new.items ≡ items_of lists.old.items }
     ensures size { length held.new.items ≡ length held.old.items }
-    ensures keeps { (i : ℕ) → slice_index_or held.old.items i 0 ≤ slice_index_or held.new.items i 0 }
-    ensures grows { OnOk result ((l : Literal) → Contains clause.now l → slice_index_or held.old.items (code_of l) 0 < slice_index_or held.new.items (code_of l) 0) }
-    ensures room { HasRoom held.new.items (map (λ v. vec_capacity v) lists.new.items) }
+    ensures keeps { AtMost held.old.items held.new.items }
+    ensures grows { OnOk result (Grows clause.now held.old.items held.new.items) }
+    ensures room { HasRoom held.new.items (rooms_of lists.new.items) }
 {
     for l in clause {
         make_room_at(lists, held, code(*l))?;
@@ -68,12 +69,12 @@ fn make_room_at(
 ) -> Result<(), AllocError>
     requires lists { at < length lists.old.items }
     requires numbers { at < length held.old.items }
-    requires room { HasRoom held.old.items (map (λ v. vec_capacity v) lists.old.items) }
-    ensures lists { map (λ v. v.items) lists.new.items ≡ map (λ v. v.items) lists.old.items }
+    requires room { HasRoom held.old.items (rooms_of lists.old.items) }
+    ensures lists { items_of lists.new.items ≡ items_of lists.old.items }
     ensures size { length held.new.items ≡ length held.old.items }
-    ensures keeps { (i : ℕ) → slice_index_or held.old.items i 0 ≤ slice_index_or held.new.items i 0 }
-    ensures grows { OnOk result (slice_index_or held.old.items at 0 < slice_index_or held.new.items at 0) }
-    ensures room { HasRoom held.new.items (map (λ v. vec_capacity v) lists.new.items) }
+    ensures keeps { AtMost held.old.items held.new.items }
+    ensures grows { OnOk result (HasLess held.old.items held.new.items at) }
+    ensures room { HasRoom held.new.items (rooms_of lists.new.items) }
 {
     let Some(wanted) = held[at].checked_add(1) else {
         return Err(AllocError);
@@ -86,10 +87,10 @@ fn make_room_at(
 
 /// Puts the clause at the end of the lists of its watched literals, which have room.
 pub fn list_clause(lists: &mut Vec<Vec<usize>>, pair: Pair, number: usize)
-    requires { ListsRoom pair (map (λ v. v.items) lists.old.items) (map (λ v. vec_capacity v) lists.old.items) }
+    requires { ListsRoom pair (items_of lists.old.items) (rooms_of lists.old.items) }
     ensures size { length lists.new.items ≡ length lists.old.items }
-    ensures listed { ListsClause pair number (map (λ v. v.items) lists.old.items) (map (λ v. v.items) lists.new.items) }
-    ensures rooms { (i : ℕ) → slice_index_or (map (λ v. vec_capacity v) lists.old.items) i 0 ≤ slice_index_or (map (λ v. vec_capacity v) lists.new.items) i 0 }
+    ensures listed { ListsClause pair number (items_of lists.old.items) (items_of lists.new.items) }
+    ensures rooms { AtMost (rooms_of lists.old.items) (rooms_of lists.new.items) }
 {
     if pair.is_watched() {
         append(lists, pair.first, number);
@@ -100,10 +101,10 @@ pub fn list_clause(lists: &mut Vec<Vec<usize>>, pair: Pair, number: usize)
 /// Puts the clause at the end of the literal's list, which has room.
 pub fn append(lists: &mut Vec<Vec<usize>>, l: Lit, number: usize)
     requires inside { code_of l < length lists.old.items }
-    requires room { length (list_at (map (λ v. v.items) lists.old.items) l) < slice_index_or (map (λ v. vec_capacity v) lists.old.items) (code_of l) 0 }
+    requires room { Fits (items_of lists.old.items) (rooms_of lists.old.items) l }
     ensures size { length lists.new.items ≡ length lists.old.items }
-    ensures lists { map (λ v. v.items) lists.new.items ≡ slice_set (map (λ v. v.items) lists.old.items) (code_of l) (list_at (map (λ v. v.items) lists.old.items) l ++ number ∷ []) }
-    ensures rooms { (i : ℕ) → slice_index_or (map (λ v. vec_capacity v) lists.old.items) i 0 ≤ slice_index_or (map (λ v. vec_capacity v) lists.new.items) i 0 }
+    ensures lists { items_of lists.new.items ≡ appended (items_of lists.old.items) l number }
+    ensures rooms { AtMost (rooms_of lists.old.items) (rooms_of lists.new.items) }
 {
     let list = &mut lists[code(l)];
     list.push_reserved(number);

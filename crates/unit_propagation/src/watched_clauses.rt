@@ -3,7 +3,7 @@
 ghost use Rattle.std.specs.Prelude.{◌≡◌, ◌<◌, ◌≤◌, ◌^◌, ◌++◌, ◌∷◌, [], ℕ, All, Some, Contains, IsTrue, OnOk, OnErr, length, slice_get, slice_set, swap_remove};
 ghost use Rattle.unit_propagation.specs.Units.{IsWithin};
 ghost use Rattle.cnf_core.specs.declared.formula.Lit.{Lit as Literal};
-ghost use Rattle.unit_propagation.specs.Watching.{watches, list_at, pair_of, IsIndexed, MovesWatch};
+ghost use Rattle.unit_propagation.specs.Watching.{watches, list_at, pair_of, IsIndexed, LeavesList, MovesWatch};
 
 use crate::pair::Pair;
 use crate::watch_lists::{add_lists, add_zeros, append, code, list_clause, make_room};
@@ -23,14 +23,13 @@ pub struct WatchedClauses {
 }
 
 impl Model for WatchedClauses {
-    ghost use Rattle.std.specs.Prelude.{map};
     ghost use Rattle.unit_propagation.specs.Watching.{Watched};
 
     ghost Value = { Watched };
 
-    ghost use Rattle.unit_propagation.specs.WatchedFields.{IsWatchedClauses};
+    ghost use Rattle.unit_propagation.specs.WatchedFields.{IsWatchedClauses, watched_of};
 
-    ghost view = { λ a. record { width = a.width; clauses = a.clauses.items; pairs = a.pairs.items; lists = map (λ v. v.items) a.lists.items } };
+    ghost view = { watched_of };
 
     ghost invariant = { IsWatchedClauses };
 }
@@ -142,7 +141,7 @@ impl WatchedClauses {
         ensures width { self.new.width ≡ self.old.width }
         ensures clauses { self.new.clauses ≡ self.old.clauses }
         ensures pairs { self.new.pairs ≡ slice_set self.old.pairs clause (pair_of other to) }
-        ensures list { list_at self.new.lists from ≡ swap_remove (list_at self.old.lists from) place clause }
+        ensures list { LeavesList self.old.lists self.new.lists from place clause }
     {
         let list = &mut self.lists[code(from)];
         list.swap_remove(place);
