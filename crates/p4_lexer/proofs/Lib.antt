@@ -10,4 +10,5 @@ mod NameLemmas
 mod PieceLemmas
 mod SpelledLemmas
 mod BeginsLemmas
+mod LiteralLemmas
 mod PlaceLemmas

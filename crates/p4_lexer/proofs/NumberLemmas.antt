@@ -15,7 +15,7 @@ use Rattle.p4_lexer.proofs.ByteLemmas.{base_letter, sort_letter}
 abbrev run : ℕ → List ℕ → ℕ
 run base text = prefix_len (has (InDigits base)) text
 
-abbrev digit_run : List ℕ → ℕ
+abbrev pub digit_run : List ℕ → ℕ
 digit_run text = prefix_len (is_digit_of 10) text
 
 decimal_longest : (c : ℕ) (w rest : List ℕ) → IsDecimal (c ∷ w) → length (c ∷ w) ≤ decimal_len (c ∷ w ++ rest)
@@ -105,7 +105,7 @@ no_based c (letter ∷ text) sort some =
     let behind : is_sort letter ≡ true = rw no_digit at at_first in
     both_ways (is_sort letter) in_digits.1 behind
 
-decimal_within : (c : ℕ) (text : List ℕ) → begins_sort (drop (digit_run (c ∷ text)) (c ∷ text)) ≡ true → decimal_len (c ∷ text) ≤ digit_run (c ∷ text) + 1
+decimal_within : (c : ℕ) (text : List ℕ) → begins_sort (drop (digit_run (c ∷ text)) (c ∷ text)) ≡ true → decimal_len (c ∷ text) ≤ digit_run (c ∷ text)
 decimal_within c text sort = elim (cases_Bool (is_digit_of 10 c)) [
   | inl digit ↦
       let one : 1 + digit_run text ≡ suc (digit_run text) = omega arith in
@@ -115,19 +115,19 @@ decimal_within c text sort = elim (cases_Bool (is_digit_of 10 c)) [
 ]
 
 -- a number with no prefix goes no further than a prefix that stands there
-plain_within_width : (text : List ℕ) → begins_sort (drop (digit_run text) text) ≡ true → plain_len text ≤ digit_run text + 1
+pub plain_within_width : (text : List ℕ) → begins_sort (drop (digit_run text) text) ≡ true → plain_len text ≤ digit_run text
 plain_within_width [] sort = absurd cc
-plain_within_width (c ∷ text) sort = cond_both (nat_lt 0 (based_len (c ∷ text))) (based_len (c ∷ text)) (decimal_len (c ∷ text)) (λ n. n ≤ digit_run (c ∷ text) + 1)
+plain_within_width (c ∷ text) sort = cond_both (nat_lt 0 (based_len (c ∷ text))) (based_len (c ∷ text)) (decimal_len (c ∷ text)) (λ n. n ≤ digit_run (c ∷ text))
     (λ holds. absurd (no_based c text sort (ltb-true 0 (based_len (c ∷ text)) holds)))
     (λ fails. decimal_within c text sort)
 
 -- the parts of a prefix that begins a text
-record WidthParts (text : List ℕ) : Type 0 where
-  sort : begins_sort (drop (digit_run text) text) ≡ true
-  fits : is_width (value_of 10 (take (digit_run text) text)) ≡ true
-  len : width_len text ≡ digit_run text + 1
+pub record WidthParts (text : List ℕ) : Type 0 where
+  pub sort : begins_sort (drop (digit_run text) text) ≡ true
+  pub fits : is_width (value_of 10 (take (digit_run text) text)) ≡ true
+  pub len : width_len text ≡ digit_run text + 1
 
-width_parts : (text : List ℕ) → 0 < width_len text → WidthParts text
+pub width_parts : (text : List ℕ) → 0 < width_len text → WidthParts text
 width_parts text some = elim (cases_Bool (begins_sort (drop (digit_run text) text) && is_width (value_of 10 (take (digit_run text) text)))) [
   | inl holds ↦
       let both = and_parts (begins_sort (drop (digit_run text) text)) (is_width (value_of 10 (take (digit_run text) text))) holds in
@@ -144,7 +144,7 @@ plain_in_number text = cond_both (nat_lt 0 (width_len text) && nat_lt 0 (plain_l
     (λ fails. omega arith)
 
 -- a prefix that begins a text
-width_is : (digits : List ℕ) (letter : ℕ) (rest : List ℕ) → IsTrue (list_all (is_digit_of 10) digits) → is_sort letter ≡ true → is_width (value_of 10 digits) ≡ true → width_len (digits ++ letter ∷ rest) ≡ length digits + 1
+pub width_is : (digits : List ℕ) (letter : ℕ) (rest : List ℕ) → IsTrue (list_all (is_digit_of 10) digits) → is_sort letter ≡ true → is_width (value_of 10 digits) ≡ true → width_len (digits ++ letter ∷ rest) ≡ length digits + 1
 width_is digits letter rest decimal sort fits =
     let n : digit_run (digits ++ letter ∷ rest) ≡ length digits = run_exact (is_digit_of 10) digits letter rest decimal (sort_letter letter sort).0 in
     rw (n, drop-append_seam digits (letter ∷ rest), take-append_seam digits (letter ∷ rest), sort, fits) refl
@@ -154,10 +154,10 @@ some_plain [] (inl d) = absurd d
 some_plain [] (inr d) = absurd d
 some_plain (c ∷ w) p = omega arith
 
-fits_width : (n : ℕ) → 1 ≤ n → n ≤ 128 → is_width n ≡ true
+pub fits_width : (n : ℕ) → 1 ≤ n → n ≤ 128 → is_width n ≡ true
 fits_width n lower upper = and_from (nat_le 1 n) (nat_le n 128) (le-leb 1 n lower) (le-leb n 128 upper)
 
-one_list : (digits : List ℕ) (letter : ℕ) (rest : List ℕ) → (digits ++ letter ∷ []) ++ rest ≡ digits ++ letter ∷ rest
+pub one_list : (digits : List ℕ) (letter : ℕ) (rest : List ℕ) → (digits ++ letter ∷ []) ++ rest ≡ digits ++ letter ∷ rest
 one_list digits letter rest = append_assoc digits (letter ∷ []) rest
 
 length_one_more : (digits : List ℕ) (letter : ℕ) → length (digits ++ letter ∷ []) ≡ length digits + 1
@@ -224,13 +224,13 @@ plain_spelled text some = elim (cases_Bool (nat_lt 0 (based_len text))) [
   | inr fails ↦ let later : 0 < decimal_len text = rw fails at some in rw fails (inl (decimal_spelled text later))
 ]
 
-record SortFirst (text : List ℕ) : Type 0 where
-  letter : ℕ
-  rest : List ℕ
-  spelled : text ≡ letter ∷ rest
-  sort : is_sort letter ≡ true
+pub record SortFirst (text : List ℕ) : Type 0 where
+  pub letter : ℕ
+  pub rest : List ℕ
+  pub spelled : text ≡ letter ∷ rest
+  pub sort : is_sort letter ≡ true
 
-sort_first : (text : List ℕ) → begins_sort text ≡ true → SortFirst text
+pub sort_first : (text : List ℕ) → begins_sort text ≡ true → SortFirst text
 sort_first [] sort = absurd cc
 sort_first (c ∷ text) sort = record { letter = c; rest = text; spelled = refl; sort = sort }
 

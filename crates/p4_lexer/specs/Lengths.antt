@@ -2,6 +2,8 @@
 use Rattle.std.specs.Prelude.{ℕ, ◌+◌, Bool, false, not, ◌&&◌, ◌||◌, ◌==◌, nat_le, nat_lt, List, [], ◌∷◌, Option, None, Some, length, take, drop, if◌then◌else◌}
 use Rattle.std.specs.List.{prefix_len, list_any}
 use Rattle.std.specs.Option.{option_map}
+use Rattle.tg_base.specs.declared.literal.IntType.{IntType}
+use Rattle.tg_base.specs.declared.literal.IntType.TheVariants.{Integer, Unsigned, Signed}
 use Rattle.p4_lexer.specs.declared.piece.Kind.{Kind}
 use Rattle.p4_lexer.specs.declared.piece.Kind.TheVariants.{Blank, Comment, Name, Number, Text, Sign, Annotation, OpenComment, OpenText, Stray}
 use Rattle.p4_lexer.specs.declared.piece.Piece.{Piece}
@@ -167,3 +169,22 @@ piece_by OtherHead c text = piece_or Sign (sign_len (c ∷ text)) Stray
 abbrev pub piece_of : List ℕ → Piece
 piece_of [] = record { kind = Stray; len = 0 }
 piece_of (c ∷ text) = piece_by (head_of c) c text
+
+-- the type that digits before this text give as its prefix
+abbrev pub type_by : ℕ → ℕ → IntType
+type_by letter width = if letter == 119 then Unsigned width else Signed width
+
+abbrev pub width_by : ℕ → Option ℕ
+width_by n = if is_width n then Some n else None
+
+abbrev pub typed : ℕ → Option ℕ → IntType
+typed letter None = Integer
+typed letter (Some width) = type_by letter width
+
+abbrev pub type_behind : List ℕ → List ℕ → IntType
+type_behind digits [] = Integer
+type_behind digits (c ∷ rest) = if is_sort c then typed c (width_by (value_of 10 digits)) else Integer
+
+-- the type of a number
+abbrev pub literal_type : List ℕ → IntType
+literal_type text = type_behind (take (prefix_len (is_digit_of 10) text) text) (drop (prefix_len (is_digit_of 10) text) text)

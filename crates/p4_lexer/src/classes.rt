@@ -1,5 +1,5 @@
 //! Classes of bytes, and runs of bytes of one class.
-ghost use Rattle.std.specs.Prelude.{◌≡◌, ◌≤◌, length};
+ghost use Rattle.std.specs.Prelude.{IfSome, ◌≡◌, ◌≤◌, length};
 ghost use Rattle.std.specs.List.{prefix_len};
 ghost use Rattle.p4_lexer.specs.Bytes.{is_blank, begins_name, is_in_name};
 ghost use Rattle.p4_lexer.specs.Digits.{digit_value, is_digit_of, is_in_digits, base_of};
@@ -74,7 +74,8 @@ fn is_in_digits(base: u8, c: u8) -> bool
 
 /// The base that the letter behind a first `0` gives.
 pub(crate) fn base_of(c: u8) -> Option<u8>
-    ensures { result ≡ base_of c }
+    ensures value { result ≡ base_of c }
+    ensures some { IfSome result (λ base. 1 ≤ base) }
 {
     match c {
         b'x' | b'X' => Some(16),

@@ -1,9 +1,6 @@
-//! The words of a P4 source, as far as they are built: what begins at a place of a text, and where it stands.
-//!
-//! [`piece_at`] finds the longest word, blank or comment at the start of a text, [`place_behind`] counts lines and
-//! bytes, and [`first_bad_byte`] finds what is no text in UTF-8. `specs/` defines the tokens of a whole source in
-//! layers, of which the later ones (directives, macros, annotations, marks) and the types [`Tokens`] and [`Token`]
-//! are not met by any function yet: a scan of whole sources is not built.
+//! The words of a P4 source, as far as they are built: what begins at a place of a text, what a number stands for
+//! and where a byte stands. `specs/` defines the tokens of a whole source in layers; no function meets the later ones
+//! (directives, macros, annotations, marks) yet, so a scan of whole sources is not built.
 #![tactic(auto)]
 
 mod classes;
@@ -14,9 +11,11 @@ mod pieces;
 mod places;
 mod texts;
 mod token;
+mod values;
 
 pub use limits::MAX_WORDS;
 pub use piece::{Kind, Piece};
 pub use pieces::piece_at;
 pub use places::{first_bad_byte, place_behind};
 pub use token::{Keyword, Reserved, Sign, Text, Token, Tokens, Word};
+pub use values::literal;

@@ -95,7 +95,8 @@ fn begins_sort(text: &[u8]) -> bool
     }
 }
 
-fn width_len(text: &[u8]) -> usize
+/// How long the prefix of the number is, or 0 where it has none.
+pub(crate) fn width_len(text: &[u8]) -> usize
     ensures value { result ≡ width_len text.now }
     ensures within { result ≤ length text.now }
 {
