@@ -107,17 +107,22 @@ const NOTED: [(&str, Source, u64, u8, &str); 17] = [
     ("gen --bytes", Source::Skeleton(""), 1, 1, USAGE),
     ("gen a.p4 --bytes 0", Source::Skeleton(""), 1, 1, USAGE),
     ("Gen a.p4", Source::Skeleton(""), 1, 1, USAGE),
-    ("replay a.p4 test_1.stf zeros", Source::Skeleton(""), 1, 1, USAGE),
+    (
+        "replay a.p4 test_1.stf zeros",
+        Source::Skeleton(""),
+        1,
+        1,
+        USAGE,
+    ),
     ("load 7 200", Source::Skeleton(""), 1, 1, USAGE),
     // Other sources.
     ("gen a.p4", Source::Blanks(0), 0, 2, NOT_BUILT),
     ("gen a.p4", Source::NotText, 0, 2, NOT_BUILT),
     ("gen a.p4", Source::Blanks(262_144), 0, 2, NOT_BUILT),
     ("gen a.p4", Source::Blanks(300_000), 0, 2, NOT_BUILT),
-    // Of a long file 262,145 bytes are taken, by an open, 64 reads of 4,096 bytes and one of a single byte: the read
-    // past these is not made.
-    ("gen a.p4", Source::Blanks(300_000), 66, 4, READ_FAULT),
-    ("gen a.p4", Source::Blanks(300_000), 67, 2, NOT_BUILT),
+    // Of a long file 262,145 bytes are taken, by an open and a read that fills the buffer: the read past it is not made.
+    ("gen a.p4", Source::Blanks(300_000), 2, 4, READ_FAULT),
+    ("gen a.p4", Source::Blanks(300_000), 3, 2, NOT_BUILT),
     // A missing file, and a fault at the open and at each read.
     ("gen b.p4", Source::Skeleton(""), 0, 4, READ_FAULT),
     ("gen a.p4", Source::Skeleton(""), 1, 4, READ_FAULT),
@@ -132,7 +137,9 @@ impl Source {
     fn bytes(self, alloc: Global) -> Result<Vec<u8>, AllocError> {
         match self {
             Source::Skeleton(statements) => {
-                format!(in alloc; "{HEAD}{statements}{TAIL}")?.as_bytes().to_vec(alloc)
+                format!(in alloc; "{HEAD}{statements}{TAIL}")?
+                    .as_bytes()
+                    .to_vec(alloc)
             }
             Source::Blanks(count) => vec![in alloc; b' '; count],
             Source::NotText => b"\xff".to_vec(alloc),
@@ -210,12 +217,25 @@ fn a_write_that_fails_ends_the_call(rt: HostRuntime) -> Result<(), Fail> {
     }
     // The third write fails, and would succeed if it were tried again: a test of three pieces has two.
     let mut desk = SparingDesk::new(alloc, source.bytes(alloc)?, 3)?;
-    let words = vec![in alloc; String::from_str(alloc, "gen")?, String::from_str(alloc, "a.p4")?]?;
+    let words = vec![in alloc;
+        String::from_str(alloc, "gen")?,
+        String::from_str(alloc, "a.p4")?,
+    ]?;
     assert_eq!(rt; testgen(alloc, words.as_slice(), &mut desk), 5);
-    assert_holds(&rt, desk.desk(), ["", "# test 1 covers 1\npacket 0 00000", ""], "a sparing desk");
+    assert_holds(
+        &rt,
+        desk.desk(),
+        ["", "# test 1 covers 1\npacket 0 00000", ""],
+        "a sparing desk",
+    );
     // No write fails.
     let mut desk = SparingDesk::new(alloc, source.bytes(alloc)?, 0)?;
     assert_eq!(rt; testgen(alloc, words.as_slice(), &mut desk), 0);
-    assert_holds(&rt, desk.desk(), [report.as_str(), JOBS[0].test, ""], "a sparing desk");
+    assert_holds(
+        &rt,
+        desk.desk(),
+        [report.as_str(), JOBS[0].test, ""],
+        "a sparing desk",
+    );
     Ok(())
 }

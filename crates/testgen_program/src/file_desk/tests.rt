@@ -88,7 +88,7 @@ fn files_hold_what_was_written(rt: &(impl Files + AllocGlobal + Abort)) -> Resul
 }
 
 /// A run over the folder as it then stands. Its test is made anew.
-fn generates(rt: HostRuntime) -> Result<(), Fail> {
+fn generates(rt: &(impl Files + AllocGlobal + Abort)) -> Result<(), Fail> {
     let alloc = rt.alloc();
     let words = vec![in alloc;
         String::from_str(alloc, "gen")?,
@@ -97,7 +97,7 @@ fn generates(rt: HostRuntime) -> Result<(), Fail> {
     let mut desk = FileDesk::new(alloc, rt, Vec::new(alloc), Vec::new(alloc));
     let status = testgen(alloc, words.as_slice(), &mut desk);
     assert_eq!(rt; status, 0);
-    let test = fs::read_to_string(&rt, "test_1.stf")?;
+    let test = fs::read_to_string(rt, "test_1.stf")?;
     assert_eq!(rt; test.as_str(), TEST);
     assert_eq!(rt; desk.report.as_slice(), REPORT.as_bytes());
     assert_eq!(rt; desk.notes.len(), 0);
@@ -115,7 +115,7 @@ fn keeps_files_of_a_folder(rt: HostRuntime) -> Result<(), Fail> {
     files_hold_what_was_written(&rt)?;
     assert_eq!(rt; desk.report.as_slice(), b"one9th".as_slice());
     assert_eq!(rt; desk.notes.as_slice(), b"5th".as_slice());
-    generates(rt)?;
+    generates(&rt)?;
     fs::remove_dir_all(&rt, folder.as_str())?;
     Ok(())
 }
