@@ -1,147 +1,137 @@
-//! The words of a source: pieces at the start of texts, places behind bytes, and bytes that are no text.
+//! The words of a source: whole texts cut into their pieces, what numbers stand for, places behind bytes, and bytes that
+//! are no text.
 
-use p4_lexer::{Kind, Piece, first_bad_byte, piece_at, place_behind};
+use p4_lexer::{Kind, first_bad_byte, literal, piece_at, place_behind};
+use std::alloc::{AllocError, Global};
 use std::test::Fail;
-use tg_base::Span;
+use tg_base::{IntType, IntValue, Literal, Span};
 
-/// The longest text of a table.
+/// The longest text of a table of places.
 const LONGEST: usize = 100;
 
-macro_rules! pieces {
-    ($($text:literal: $kind:ident $len:literal;)*) => {
-        [$(($text, Kind::$kind, $len)),*]
-    };
+/// Texts, and their pieces: the letter of the kind and the length of each.
+const TEXTS: [(&str, &str); 13] = [
+    (
+        "struct A{_a5 b;__}if(x)x8w1 _;",
+        "N6 B1 N1 S1 N3 B1 N1 S1 N2 S1 N2 S1 N1 S1 N4 B1 S1 S1 ",
+    ),
+    (
+        "1 1_000;5_ 1__0 4_8w1 1a 12abc",
+        "I1 B1 I5 S1 I2 B1 I4 B1 I3 N2 B1 I1 N1 B1 I2 N3 ",
+    ),
+    (
+        "0x_F;0xFG 0x_ 0b12 0o78 0d19a",
+        "I4 S1 I3 N1 B1 I1 N2 B1 I3 I1 B1 I3 I1 B1 I4 N1 ",
+    ),
+    (
+        "8w255 8w0xFF;08w1 129w1 0w1 8W1 8w0xZ",
+        "I5 B1 I6 S1 I4 B1 I3 N2 B1 I1 N2 B1 I1 N2 B1 I3 N2 ",
+    ),
+    ("\"abc\" \"\" \"a\\\"b\" \"/* x\"", "T5 B1 T2 B1 T6 B1 T6 "),
+    ("\"abc\n\"", "t4 B1 t1 "),
+    (
+        "// x\ny/* a */b/**//***/x/* a /* b */c",
+        "C4 B1 N1 C7 N1 C4 C5 N1 C12 N1 ",
+    ),
+    ("/= / */*/", "S1 S1 B1 S1 B1 S1 c3 "),
+    (
+        "&&&&|+||-|<<=>>===!=+++...",
+        "S3 S1 S3 S3 S2 S1 S2 S2 S1 S2 S2 S1 S2 S1 ",
+    ),
+    (
+        "@name(\"x\") @_a @ x @_ @5",
+        "A5 S1 T3 S1 B1 A3 B1 X1 B1 N1 B1 X1 S1 B1 X1 I1 ",
+    ),
+    (
+        " \t\r\n$#define X\\'`",
+        "B1 B1 B1 B1 X1 X1 N6 B1 N1 X1 X1 X1 ",
+    ),
+    (
+        "package\u{e9}\u{c}\0\"\u{e9}\"//\u{e9}",
+        "N7 X1 X1 X1 X1 T4 C4 ",
+    ),
+    ("x/* a\n#endif\n", "N1 c12 "),
+];
+
+/// Numbers, the types that their prefixes give, and their values where 128 bits are enough.
+const NUMBERS: [(&str, IntType, IntValue); 10] = [
+    ("007", IntType::Integer, IntValue::Exact(7)),
+    ("0XaB_c", IntType::Integer, IntValue::Exact(0xabc)),
+    ("0b1_01", IntType::Integer, IntValue::Exact(5)),
+    ("8w256", IntType::Unsigned(8), IntValue::Exact(256)),
+    ("08w0x1F", IntType::Unsigned(8), IntValue::Exact(31)),
+    ("1s1", IntType::Signed(1), IntValue::Exact(1)),
+    ("128w0", IntType::Unsigned(128), IntValue::Exact(0)),
+    ("129w0", IntType::Integer, IntValue::Exact(129)),
+    (
+        "340282366920938463463374607431768211455",
+        IntType::Integer,
+        IntValue::Exact(u128::MAX),
+    ),
+    (
+        "4w340282366920938463463374607431768211456",
+        IntType::Unsigned(4),
+        IntValue::TooLarge,
+    ),
+];
+
+fn letter(kind: Kind) -> &'static str {
+    match kind {
+        Kind::Blank => "B",
+        Kind::Comment => "C",
+        Kind::Name => "N",
+        Kind::Number => "I",
+        Kind::Text => "T",
+        Kind::Sign => "S",
+        Kind::Annotation => "A",
+        Kind::OpenComment => "c",
+        Kind::OpenText => "t",
+        Kind::Stray => "X",
+    }
 }
 
-/// Texts, and what begins them.
-const PIECES: [(&str, Kind, usize); 117] = pieces! {
-    "x": Name 1;
-    "a5_;": Name 3;
-    "_a5 b": Name 3;
-    "__": Name 2;
-    "if(x)": Name 2;
-    "struct A": Name 6;
-    "packageé": Name 7;
-    "x8w1": Name 4;
-    "_": Sign 1;
-    "_;": Sign 1;
-    "1": Number 1;
-    "1_000;": Number 5;
-    "5_ ": Number 2;
-    "1__0": Number 4;
-    "0x_F;": Number 4;
-    "0xFG": Number 3;
-    "0x;": Number 1;
-    "0x_": Number 1;
-    "0b2": Number 1;
-    "0b12": Number 3;
-    "0o78": Number 3;
-    "0d19a": Number 4;
-    "0X1f": Number 4;
-    "0O7": Number 3;
-    "0B1": Number 3;
-    "0D9": Number 3;
-    "8w255": Number 5;
-    "8s1": Number 3;
-    "8w0xFF;": Number 6;
-    "08w1": Number 4;
-    "1w1": Number 3;
-    "128w1": Number 5;
-    "129w1": Number 3;
-    "0w1": Number 1;
-    "8w_1": Number 1;
-    "8W1": Number 1;
-    "8u1": Number 1;
-    "8w": Number 1;
-    "8ww1": Number 1;
-    "8w0xZ": Number 3;
-    "8w256": Number 5;
-    "4_8w1": Number 3;
-    "4294967296w1": Number 10;
-    "1a": Number 1;
-    "12abc": Number 2;
-    "340282366920938463463374607431768211456": Number 39;
-    "\"abc\" x": Text 5;
-    "\"\"": Text 2;
-    "\"a\\\"b\"": Text 6;
-    "\"a\\\nb\"": Text 6;
-    "\"\\\\\"": Text 4;
-    "\"/* x\"": Text 6;
-    "\"// x\"": Text 6;
-    "\"é\"": Text 4;
-    "\"abc\n\"": OpenText 4;
-    "\"abc": OpenText 4;
-    "\"": OpenText 1;
-    "\"a\\": OpenText 2;
-    "\"a\\\"": OpenText 4;
-    "// x\ny": Comment 4;
-    "//": Comment 2;
-    "//é": Comment 4;
-    "// x\r\n": Comment 5;
-    "// /* x\n": Comment 7;
-    "//\\\n": Comment 3;
-    "/* a */ b": Comment 7;
-    "/**/": Comment 4;
-    "/***/x": Comment 5;
-    "/* a /* b */ c */": Comment 12;
-    "/* a\n b */": Comment 10;
-    "/* \" */": Comment 7;
-    "/* # */": Comment 7;
-    "/*/": OpenComment 3;
-    "/* a * /": OpenComment 8;
-    "/*": OpenComment 2;
-    "/* a\n#endif\n": OpenComment 12;
-    "/ *": Sign 1;
-    "/=": Sign 1;
-    "&&&&": Sign 3;
-    "&&": Sign 2;
-    "&|": Sign 1;
-    "|+|": Sign 3;
-    "|-|": Sign 3;
-    "|+": Sign 1;
-    "||": Sign 2;
-    "<<=": Sign 2;
-    ">>=": Sign 2;
-    "<=": Sign 2;
-    ">=": Sign 2;
-    "==": Sign 2;
-    "!=": Sign 2;
-    "+++": Sign 2;
-    "...": Sign 2;
-    "*/": Sign 1;
-    "-1": Sign 1;
-    "=>": Sign 1;
-    "?:": Sign 1;
-    "@name(\"x\")": Annotation 5;
-    "@_a ": Annotation 3;
-    "@if": Annotation 3;
-    "@ x": Stray 1;
-    "@_": Stray 1;
-    "@5": Stray 1;
-    " x": Blank 1;
-    "\tx": Blank 1;
-    "\r\n": Blank 1;
-    "\n\n": Blank 1;
-    "$": Stray 1;
-    "#define X": Stray 1;
-    "\\": Stray 1;
-    "'a'": Stray 1;
-    "`": Stray 1;
-    "é": Stray 1;
-    "\u{c}": Stray 1;
-    "\u{b}": Stray 1;
-    "\0": Stray 1;
-    "\u{feff}x": Stray 1;
-};
+/// The pieces of a text, as the table shows them.
+fn cut(alloc: Global, text: &str) -> Result<String, AllocError> {
+    let mut shown = String::new(alloc);
+    let mut rest = text.as_bytes();
+    for _piece in 0..text.len() {
+        if rest.is_empty() {
+            break;
+        }
+        let piece = piece_at(rest);
+        let (mark, len) = (letter(piece.kind), piece.len);
+        let word = format!(in alloc; "{mark}{len} ")?;
+        shown.push_str(word.as_str())?;
+        let Some(next) = rest.get(len..) else {
+            break;
+        };
+        rest = next;
+    }
+    Ok(shown)
+}
+
+/// What the number at the start of the text stands for.
+fn number_at(alloc: Global, text: &[u8]) -> Result<Option<Literal>, AllocError> {
+    if text.is_empty() {
+        return Ok(None);
+    }
+    let piece = piece_at(text);
+    match piece.kind {
+        Kind::Number => Ok(Some(literal(alloc, &text[..piece.len])?)),
+        _ => Ok(None),
+    }
+}
 
 #[test]
-fn the_longest_piece_is_taken(rt: HostRuntime) -> Result<(), Fail> {
-    for (text, kind, len) in PIECES {
-        let bytes = text.as_bytes();
-        if bytes.is_empty() {
-            return Err("an empty row".into());
-        }
-        assert_eq!(rt; piece_at(bytes), Piece { kind, len }, "{text}");
+fn texts_are_cut_and_numbers_are_read(rt: HostRuntime) -> Result<(), Fail> {
+    for (text, pieces) in TEXTS {
+        let got = cut(rt.alloc(), text)?;
+        assert_eq!(rt; got.as_str(), pieces, "{text}");
+    }
+    for (text, int_type, value) in NUMBERS {
+        let found = number_at(rt.alloc(), text.as_bytes())?.ok_or("no number")?;
+        assert_eq!(rt; found.int_type, int_type, "{text}");
+        assert_eq!(rt; found.value, value, "{text}");
     }
     Ok(())
 }
@@ -154,7 +144,7 @@ fn places_count_lines_and_bytes(rt: HostRuntime) -> Result<(), Fail> {
         ("ab", 1, 3),
         ("a\n", 2, 1),
         ("a\n\n b", 3, 3),
-        ("é", 1, 3),
+        ("\u{e9}", 1, 3),
         ("a\rb", 1, 4),
         ("a\r\nb\t", 2, 3),
     ] {
@@ -164,14 +154,11 @@ fn places_count_lines_and_bytes(rt: HostRuntime) -> Result<(), Fail> {
         }
         assert_eq!(rt; place_behind(start, bytes), Span { line, column }, "{text}");
     }
-    let rows: [(&[u8], Option<usize>); 9] = [
+    let rows: [(&[u8], Option<usize>); 6] = [
         (b"", None),
-        (b"abc", None),
         (b"\xe2\x82\xac", None),
         (b"// \xff", Some(3)),
-        (b"\xff $", Some(0)),
         (b"ab\xc3", Some(2)),
-        (b"a\xe2\x82", Some(1)),
         (b"\xed\xa0\x80", Some(0)),
         (b"x\n\xc0\x80", Some(2)),
     ];
