@@ -66,14 +66,16 @@ impl<R: Files, W: Write, N: Write> FileDesk<R, W, N> {
     fn write_some(&mut self, out: Out, piece: &[u8]) -> Result<usize, DeskFault>
         requires { 0 < length piece.now }
         ensures some { IfOk result (λ count. (0 < count) × (count ≤ length piece.now)) }
-        ensures report { Reaches Out.Report out (W.contents self.old.report) (W.contents self.new.report) result piece.now }
-        ensures notes { Reaches Out.Notes out (N.contents self.old.notes) (N.contents self.new.notes) result piece.now }
+        ensures report { Reaches Out.Report out (W.contents self.old.report)
+            (W.contents self.new.report) result piece.now }
+        ensures notes { Reaches Out.Notes out (N.contents self.old.notes)
+            (N.contents self.new.notes) result piece.now }
         ensures kept { IsTrue (has_own_file out) → OnOk result
             (IsSomeAnd self.new.made.kept (λ now. now.out ≡ out)) }
         ensures gained { IsTrue (has_own_file out) → IfOk result (λ count. IfSome self.new.made.kept
             (λ now. HasGained R.File.contents now.file (take count piece.now))) }
-        ensures appended { IsTrue (has_own_file out) → IfSome self.old.made.kept (λ before. before.out ≡ out
-            → IsSomeAnd self.new.made.kept (λ now. WriteAppends (R.File.contents before.file)
+        ensures appended { IsTrue (has_own_file out) → IfSome self.old.made.kept (λ before.
+            before.out ≡ out → IsSomeAnd self.new.made.kept (λ now. WriteAppends (R.File.contents before.file)
             (R.File.contents now.file) result piece.now)) }
         ensures kept_stays { has_own_file out ≡ false → self.new.made.kept ≡ self.old.made.kept }
         ensures source_stays { self.new.source ≡ self.old.source }
@@ -103,7 +105,8 @@ impl<R: Files + Drop, W: Write + Drop, N: Write + Drop> Desk for FileDesk<R, W, 
         // What stays.
         ensures opened_stays { OnErr result ((moment_at self.new.history false).opened
             ≡ (moment_at self.old.history false).opened) }
-        ensures stays { KeepsWriting (moment_at self.old.history false) (moment_at self.new.history false) }
+        ensures stays { KeepsWriting (moment_at self.old.history false)
+            (moment_at self.new.history false) }
     {
         match fs::open(&self.files, name) {
             Ok(file) => {
@@ -124,9 +127,11 @@ impl<R: Files + Drop, W: Write + Drop, N: Write + Drop> Desk for FileDesk<R, W, 
         requires room { 0 < length into.old }
         ensures within { IfOk result (λ count. count ≤ length into.old) }
         // What it moves is what the file had left, where the file tells.
-        ensures bytes { IfSome self.old.source (λ before. MovesOut (R.File.remaining before) result into.new) }
+        ensures bytes { IfSome self.old.source (λ before.
+            MovesOut (R.File.remaining before) result into.new) }
         ensures left { IfSome self.old.source (λ before. IfSome self.new.source (λ now.
-            IfOk result (λ count. Consumes (R.File.remaining before) (R.File.remaining now) (take count into.new)))) }
+            IfOk result (λ count. Consumes (R.File.remaining before) (R.File.remaining now)
+            (take count into.new)))) }
         ensures moved { IfOk result (λ count. (moment_at self.new.history false).opened
             ≡ after_read (moment_at self.old.history false).opened (take count into.new)) }
         ensures behind { IfOk result (λ count. drop count into.new ≡ drop count into.old) }
@@ -141,7 +146,8 @@ impl<R: Files + Drop, W: Write + Drop, N: Write + Drop> Desk for FileDesk<R, W, 
         ensures into_stays { OnErr result (into.new ≡ into.old) }
         ensures asked_stays { (moment_at self.new.history false).asked
             ≡ (moment_at self.old.history false).asked }
-        ensures stays { KeepsWriting (moment_at self.old.history false) (moment_at self.new.history false) }
+        ensures stays { KeepsWriting (moment_at self.old.history false)
+            (moment_at self.new.history false) }
     {
         let Some(file) = &mut self.source else {
             unreachable!()
@@ -169,17 +175,20 @@ impl<R: Files + Drop, W: Write + Drop, N: Write + Drop> Desk for FileDesk<R, W, 
         requires { 0 < length piece.now }
         ensures some { IfOk result (λ count. (0 < count) × (count ≤ length piece.now)) }
         ensures taken { IfOk result (λ count. (moment_at self.new.history false).outputs out
-            ≡ output_after ((moment_at self.old.history false).outputs out) (take count piece.now)) }
+            ≡ output_after ((moment_at self.old.history false).outputs out)
+            (take count piece.now)) }
 
         // Where a stream or a file tells what it holds: it has what was taken, and nothing else.
-        ensures report { Reaches Out.Report out (W.contents self.old.report) (W.contents self.new.report) result piece.now }
-        ensures notes { Reaches Out.Notes out (N.contents self.old.notes) (N.contents self.new.notes) result piece.now }
+        ensures report { Reaches Out.Report out (W.contents self.old.report)
+            (W.contents self.new.report) result piece.now }
+        ensures notes { Reaches Out.Notes out (N.contents self.old.notes)
+            (N.contents self.new.notes) result piece.now }
         ensures kept { IsTrue (has_own_file out) → OnOk result
             (IsSomeAnd self.new.made.kept (λ now. now.out ≡ out)) }
         ensures gained { IsTrue (has_own_file out) → IfOk result (λ count. IfSome self.new.made.kept
             (λ now. HasGained R.File.contents now.file (take count piece.now))) }
-        ensures appended { IsTrue (has_own_file out) → IfSome self.old.made.kept (λ before. before.out ≡ out
-            → IsSomeAnd self.new.made.kept (λ now. WriteAppends (R.File.contents before.file)
+        ensures appended { IsTrue (has_own_file out) → IfSome self.old.made.kept (λ before.
+            before.out ≡ out → IsSomeAnd self.new.made.kept (λ now. WriteAppends (R.File.contents before.file)
             (R.File.contents now.file) result piece.now)) }
         ensures kept_stays { has_own_file out ≡ false → self.new.made.kept ≡ self.old.made.kept }
 
@@ -189,8 +198,8 @@ impl<R: Files + Drop, W: Write + Drop, N: Write + Drop> Desk for FileDesk<R, W, 
         // What stays.
         ensures out_stays { OnErr result ((moment_at self.new.history false).outputs out
             ≡ (moment_at self.old.history false).outputs out) }
-        ensures others_stay { (other : Out) → other ≢ out → (moment_at self.new.history false).outputs other
-            ≡ (moment_at self.old.history false).outputs other }
+        ensures others_stay { (other : Out) → other ≢ out
+            → (moment_at self.new.history false).outputs other ≡ (moment_at self.old.history false).outputs other }
         ensures stays { KeepsReading (moment_at self.old.history (is_some self.old.source))
             (moment_at self.new.history (is_some self.new.source)) }
     {

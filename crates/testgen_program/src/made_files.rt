@@ -53,8 +53,9 @@ impl<R: Files> MadeFiles<R> {
         ensures kept { OnOk result (IsSomeAnd self.new.kept (λ now. now.out ≡ out)) }
         ensures gained { IfOk result (λ count. IfSome self.new.kept
             (λ now. HasGained R.File.contents now.file (take count piece.now))) }
-        ensures appended { IfSome self.old.kept (λ before. before.out ≡ out → IsSomeAnd self.new.kept
-            (λ now. WriteAppends (R.File.contents before.file) (R.File.contents now.file) result piece.now)) }
+        ensures appended { IfSome self.old.kept (λ before. before.out ≡ out
+            → IsSomeAnd self.new.kept (λ now. WriteAppends (R.File.contents before.file)
+            (R.File.contents now.file) result piece.now)) }
     {
         let mut own = self.file_for(files, out)?;
         let answer = write_some(&mut own.file, piece);

@@ -21,7 +21,8 @@ impl Taken {
     /// Notes what an output has taken.
     pub(crate) fn note(&mut self, out: Out, piece: &[u8])
         ensures taken { taken_by self.new out ≡ taken_by self.old out ++ piece.now }
-        ensures others_stay { (other : Out) → other ≢ out → taken_by self.new other ≡ taken_by self.old other }
+        ensures others_stay { (other : Out) → other ≢ out
+            → taken_by self.new other ≡ taken_by self.old other }
     {
         for byte in piece {
             self.bytes = self.bytes.and(&out, byte);
