@@ -91,8 +91,10 @@ impl Checker {
 
     /// Adds the cube, as the clause of its denied literals, where it is a least conflict.
     pub fn accept_cube(&mut self, cube: &Cube) -> Result<(), CheckFault>
-        ensures refused { result ≡ Err CheckFault.BadStep → ¬ IsLeastConflict self.old.inputs (known self.old) cube.now }
-        ensures follows { result ≢ Err CheckFault.BadStep → IsLeastConflict self.old.inputs (known self.old) cube.now }
+        ensures refused { result ≡ Err CheckFault.BadStep
+            → ¬ IsLeastConflict self.old.inputs (known self.old) cube.now }
+        ensures follows { result ≢ Err CheckFault.BadStep
+            → IsLeastConflict self.old.inputs (known self.old) cube.now }
         ensures accepted { OnOk result (self.new ≡ extended self.old (CubeLine cube.now)) }
         ensures kept { OnErr result (self.new ≡ self.old) }
     {

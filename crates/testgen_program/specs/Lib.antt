@@ -1,2 +1,5 @@
-pub mod MadeFiles
+pub mod Answer
+pub mod History
+pub mod Made
 pub mod Streams
+pub mod Taken

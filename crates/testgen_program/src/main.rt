@@ -1,20 +1,19 @@
 //! The program: a command line and the desk over real files, handed to the generator.
 #![tactic(auto)]
 
+mod ended;
 mod file_desk;
+mod history;
 mod made_files;
-#[cfg(test)]
-mod rows;
+mod opened_file;
+mod taken;
 mod transfer;
 
+use ended::Ended;
 use file_desk::FileDesk;
 use std::alloc::AllocError;
-use std::process::ExitCode;
 use std::{env, io};
-use testgen_engine::testgen;
-
-/// The status where memory runs out before the generator is called.
-const OUT_OF_MEMORY: u8 = 6;
+use testgen_engine::{OUT_OF_MEMORY, testgen};
 
 /// The words after the program's name. A command line with a word that is not text has none, so
 /// that the generator refuses it as it refuses any faulty one.
@@ -26,10 +25,13 @@ fn words(rt: HostRuntime) -> Result<Vec<String>, AllocError> {
     }
 }
 
-fn main(rt: HostRuntime) -> ExitCode {
+fn main(rt: HostRuntime) -> Ended {
     let Ok(words) = words(rt) else {
-        return ExitCode::from(OUT_OF_MEMORY);
+        return Ended {
+            status: OUT_OF_MEMORY,
+        };
     };
     let mut desk = FileDesk::new(rt.alloc(), rt, rt.stdout(), rt.stderr());
-    ExitCode::from(testgen(rt.alloc(), words.as_slice(), &mut desk))
+    let status = testgen(rt.alloc(), words.as_slice(), &mut desk);
+    Ended { status }
 }

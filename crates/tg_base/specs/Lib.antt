@@ -2,6 +2,7 @@ pub mod Answer
 pub mod Calls
 pub mod CalmDesk
 pub mod Code
+pub mod Deciding
 pub mod Faults
 pub mod Files
 pub mod MemDesk

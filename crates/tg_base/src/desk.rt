@@ -54,10 +54,13 @@ pub trait Desk {
     fn open(&mut self, name: &str) -> Result<(), DeskFault>
         ensures opened { OnOk result
             ((moment self.new).opened ≡ (moment self.old).opened ++ just_opened name.now ∷ []) }
-        ensures readable { (moment self.new).readable ≡ (is_ok result || (moment self.old).readable) }
-        ensures asked { (moment self.new).asked ≡ (if wants_memory result then (moment self.old).asked
+        ensures readable { (moment self.new).readable
+            ≡ (is_ok result || (moment self.old).readable) }
+        ensures asked { (moment self.new).asked
+            ≡ (if wants_memory result then (moment self.old).asked
             else (moment self.old).asked ++ name.now ∷ []) }
-        ensures faults { HasCause (moment self.old).read_faults (moment self.new).read_faults result }
+        ensures faults { HasCause (moment self.old).read_faults
+            (moment self.new).read_faults result }
 
         // What stays.
         ensures opened_stays { OnErr result ((moment self.new).opened ≡ (moment self.old).opened) }
@@ -75,7 +78,8 @@ pub trait Desk {
         // The end and any fault make the desk unreadable.
         ensures readable { MatchResult result (λ count. (moment self.new).readable ≡ nat_lt 0 count)
             (λ _. (moment self.new).readable ≡ false) }
-        ensures faults { HasCause (moment self.old).read_faults (moment self.new).read_faults result }
+        ensures faults { HasCause (moment self.old).read_faults
+            (moment self.new).read_faults result }
 
         // What stays.
         ensures opened_stays { OnErr result ((moment self.new).opened ≡ (moment self.old).opened) }
@@ -90,10 +94,12 @@ pub trait Desk {
         ensures some { IfOk result (λ count. (0 < count) × (count ≤ length piece.now)) }
         ensures taken { IfOk result (λ count. (moment self.new).outputs out
             ≡ output_after ((moment self.old).outputs out) (take count piece.now)) }
-        ensures faults { HasCause (moment self.old).write_faults (moment self.new).write_faults result }
+        ensures faults { HasCause (moment self.old).write_faults
+            (moment self.new).write_faults result }
 
         // What stays.
-        ensures out_stays { OnErr result ((moment self.new).outputs out ≡ (moment self.old).outputs out) }
+        ensures out_stays { OnErr result
+            ((moment self.new).outputs out ≡ (moment self.old).outputs out) }
         ensures others_stay { (other : Out) → other ≢ out
             → (moment self.new).outputs other ≡ (moment self.old).outputs other }
         ensures stays { KeepsReading (moment self.old) (moment self.new) };

@@ -1,5 +1,5 @@
-//! What every crate stands on: places in a source, the codes of refusals, and the desk through
-//! which the generator reads sources and writes tests.
+//! What every crate stands on: places in a source, numbers as it writes them, refusals and which of
+//! them decides, and the desk through which the generator reads sources and writes tests.
 //!
 //! The trait [`Desk`] says in its clauses all that the layers above may rely on. [`MemDesk`] and
 //! [`CalmDesk`] keep files and outputs in memory. The desk over real files is the program's.
@@ -8,7 +8,9 @@
 mod calls;
 mod calm_desk;
 mod desk;
+mod fault;
 pub mod laws;
+mod literal;
 mod mem_desk;
 mod open_file;
 mod outputs;
@@ -17,6 +19,8 @@ mod session;
 
 pub use calm_desk::CalmDesk;
 pub use desk::{Desk, DeskFault, Out};
+pub use fault::Fault;
+pub use literal::{IntType, IntValue, Literal};
 pub use mem_desk::MemDesk;
 pub use place::{Code, Refusal, Span};
 use sqlite_items::Items;

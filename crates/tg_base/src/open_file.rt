@@ -24,7 +24,11 @@ impl Model for OpenFile {
     ghost Value = { Reading };
 
     ghost view = { λ f. record {
-      file = record { name = string_bytes f.name; moved = take f.at f.bytes.items; ended = f.is_ended };
+      file = record {
+        name = string_bytes f.name;
+        moved = take f.at f.bytes.items;
+        ended = f.is_ended;
+      };
       rest = drop f.at f.bytes.items;
       is_readable = f.is_readable;
     } };

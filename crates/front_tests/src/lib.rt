@@ -1,0 +1,5 @@
+//! Tests alone, of the front end: a module for each crate under test, over its public calls.
+#![tactic(auto)]
+
+#[cfg(test)]
+mod words;

@@ -1,0 +1,14 @@
+mod RunLemmas
+mod ByteLemmas
+mod DigitsLemmas
+mod TextLemmas
+mod NumberLemmas
+mod CharacterLemmas
+mod CloseLemmas
+mod SignLemmas
+mod NameLemmas
+mod PieceLemmas
+mod SpelledLemmas
+mod BeginsLemmas
+mod LiteralLemmas
+mod PlaceLemmas

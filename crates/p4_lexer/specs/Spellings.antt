@@ -1,0 +1,95 @@
+-- How keywords, reserved words and signs are spelled, and the names that are types from the start.
+use Rattle.std.specs.Prelude.{ℕ, List, [], ◌∷◌, codes}
+use Rattle.p4_lexer.specs.declared.token.Keyword.{Keyword}
+use Rattle.p4_lexer.specs.declared.token.Keyword.TheVariants.{Action, Actions, Apply, Bit, Bool, Const, Control, Default, Else, Entries, Enum, Error, Exit, False, Header, If, In, Inout, Int, Key, Out, Parser, Return, Select, State, Struct, Switch, Table, Transition, True, Typedef}
+use Rattle.p4_lexer.specs.declared.token.Reserved.{Reserved}
+use Rattle.p4_lexer.specs.declared.token.Reserved.TheVariants.{Extern, Package, Varbit, HeaderUnion, Tuple, Void, MatchKind, ValueSet}
+use Rattle.p4_lexer.specs.declared.token.Sign.{Sign}
+use Rattle.p4_lexer.specs.declared.token.Sign.TheVariants.{Mask, SaturatingPlus, SaturatingMinus, ShiftLeft, ShiftRight, AtMost, AtLeast, Equal, NotEqual, And, Or, Concat, Range, Plus, Minus, Star, Slash, Percent, Ampersand, Bar, Caret, Tilde, Not, Less, Greater, Assign, LeftParen, RightParen, LeftBrace, RightBrace, LeftBracket, RightBracket, Comma, Semicolon, Colon, Dot, Question, Underscore}
+
+abbrev pub keyword_spelling : Keyword → List ℕ
+keyword_spelling Action = codes "action"
+keyword_spelling Actions = codes "actions"
+keyword_spelling Apply = codes "apply"
+keyword_spelling Bit = codes "bit"
+keyword_spelling Bool = codes "bool"
+keyword_spelling Const = codes "const"
+keyword_spelling Control = codes "control"
+keyword_spelling Default = codes "default"
+keyword_spelling Else = codes "else"
+keyword_spelling Entries = codes "entries"
+keyword_spelling Enum = codes "enum"
+keyword_spelling Error = codes "error"
+keyword_spelling Exit = codes "exit"
+keyword_spelling False = codes "false"
+keyword_spelling Header = codes "header"
+keyword_spelling If = codes "if"
+keyword_spelling In = codes "in"
+keyword_spelling Inout = codes "inout"
+keyword_spelling Int = codes "int"
+keyword_spelling Key = codes "key"
+keyword_spelling Out = codes "out"
+keyword_spelling Parser = codes "parser"
+keyword_spelling Return = codes "return"
+keyword_spelling Select = codes "select"
+keyword_spelling State = codes "state"
+keyword_spelling Struct = codes "struct"
+keyword_spelling Switch = codes "switch"
+keyword_spelling Table = codes "table"
+keyword_spelling Transition = codes "transition"
+keyword_spelling True = codes "true"
+keyword_spelling Typedef = codes "typedef"
+
+abbrev pub reserved_spelling : Reserved → List ℕ
+reserved_spelling Extern = codes "extern"
+reserved_spelling Package = codes "package"
+reserved_spelling Varbit = codes "varbit"
+reserved_spelling HeaderUnion = codes "header_union"
+reserved_spelling Tuple = codes "tuple"
+reserved_spelling Void = codes "void"
+reserved_spelling MatchKind = codes "match_kind"
+reserved_spelling ValueSet = codes "value_set"
+
+abbrev pub sign_spelling : Sign → List ℕ
+sign_spelling Mask = codes "&&&"
+sign_spelling SaturatingPlus = codes "|+|"
+sign_spelling SaturatingMinus = codes "|-|"
+sign_spelling ShiftLeft = codes "<<"
+sign_spelling ShiftRight = codes ">>"
+sign_spelling AtMost = codes "<="
+sign_spelling AtLeast = codes ">="
+sign_spelling Equal = codes "=="
+sign_spelling NotEqual = codes "!="
+sign_spelling And = codes "&&"
+sign_spelling Or = codes "||"
+sign_spelling Concat = codes "++"
+sign_spelling Range = codes ".."
+sign_spelling Plus = codes "+"
+sign_spelling Minus = codes "-"
+sign_spelling Star = codes "*"
+sign_spelling Slash = codes "/"
+sign_spelling Percent = codes "%"
+sign_spelling Ampersand = codes "&"
+sign_spelling Bar = codes "|"
+sign_spelling Caret = codes "^"
+sign_spelling Tilde = codes "~"
+sign_spelling Not = codes "!"
+sign_spelling Less = codes "<"
+sign_spelling Greater = codes ">"
+sign_spelling Assign = codes "="
+sign_spelling LeftParen = codes "("
+sign_spelling RightParen = codes ")"
+sign_spelling LeftBrace = codes "{"
+sign_spelling RightBrace = codes "}"
+sign_spelling LeftBracket = codes "["
+sign_spelling RightBracket = codes "]"
+sign_spelling Comma = codes ","
+sign_spelling Semicolon = codes ";"
+sign_spelling Colon = codes ":"
+sign_spelling Dot = codes "."
+sign_spelling Question = codes "?"
+sign_spelling Underscore = codes "_"
+
+-- the types of core.p4 and v1model
+abbrev pub first_types : List (List ℕ)
+first_types = codes "packet_in" ∷ codes "packet_out" ∷ codes "standard_metadata_t" ∷ codes "V1Switch" ∷ codes "counter" ∷ codes "direct_counter" ∷ codes "meter" ∷ codes "register" ∷ codes "HashAlgorithm" ∷ codes "CounterType" ∷ codes "MeterType" ∷ []

@@ -1,0 +1,21 @@
+//! The words of a P4 source, as far as they are built: what begins at a place of a text, what a number stands for
+//! and where a byte stands. `specs/` defines the tokens of a whole source in layers; no function meets the later ones
+//! (directives, macros, annotations, marks) yet, so a scan of whole sources is not built.
+#![tactic(auto)]
+
+mod classes;
+mod limits;
+mod numbers;
+mod piece;
+mod pieces;
+mod places;
+mod texts;
+mod token;
+mod values;
+
+pub use limits::MAX_WORDS;
+pub use piece::{Kind, Piece};
+pub use pieces::piece_at;
+pub use places::{first_bad_byte, place_behind};
+pub use token::{Keyword, Reserved, Sign, Text, Token, Tokens, Word};
+pub use values::literal;

@@ -1,0 +1,26 @@
+-- The head goes back to where propagation had ended.
+use Rattle.std.proofs.Common.{take, ap, sym, ◌∙◌, arith}
+use Rattle.std.proofs.lemmas.List.{take-map}
+use Rattle.unit_propagation.specs.declared.assignment.Cause.{Cause}
+use Rattle.unit_propagation.specs.Trail.{reasons_of}
+use Rattle.unit_propagation.specs.Propagation.{Propagation, undone}
+use Rattle.unit_propagation.proofs.StateLemmas.{state_is, state_undone, same_seen}
+use Rattle.unit_propagation.proofs.propagator.Propagator.undo_to.Goals as goal
+
+pub invariant_of-self : goal.invariant_of-self
+invariant_of-self c =
+    let inside = c.self.inside in (
+      omega (arith, c.self.invariant.0, c.undo_to.ensures.width),
+      state_is inside.watched.clauses inside.watched.pairs (take c.args.place inside.row.trail) c.undo_to.new.self.trail (take c.args.place inside.row.causes) c.undo_to.new.self.causes
+          c.last_end-self-inside.result inside.loose.items (sym c.undo_to.ensures.trail) (sym c.undo_to.ensures.causes)
+          (state_undone inside.watched.clauses inside.watched.pairs inside.row.trail inside.row.causes inside.head c.args.place c.last_end-self-inside.result inside.loose.items c.self.invariant.1
+          (omega (arith, c.if-place-count.true, c.count.ensures.count)) c.last_end-self-inside.ensures),
+    )
+
+pub returns-then-place-count : goal.returns-then-place-count
+returns-then-place-count c =
+    let inside = c.self.inside in
+    let place = c.args.place in
+    same_seen inside.watched.width inside.watched.clauses c.undo_to.new.self.trail (take place inside.row.trail) (reasons_of c.undo_to.new.self.causes) (take place (reasons_of inside.row.causes))
+    c.undo_to.ensures.trail (ap reasons_of c.undo_to.ensures.causes ∙ sym (take-map (λ (k : Cause). k.reason) place inside.row.causes))
+    ∙ ap (λ (p : Propagation). undone p place) c.self.view_is

@@ -1,0 +1,11 @@
+pub mod Units
+pub mod Assigned
+pub mod Fields
+pub mod Trail
+pub mod Watching
+pub mod WatchedFields
+pub mod Ready
+pub mod Loose
+pub mod Propagated
+pub mod Propagation
+pub mod PropagatorFields

@@ -1,0 +1,178 @@
+//! The assignment: the truth of each variable, and the trail of the literals that were set, each with its cause.
+
+ghost use Rattle.std.specs.Prelude.{◌≡◌, ◌<◌, ◌≤◌, ◌++◌, ◌∷◌, [], Some, length, slice_get, take, false, All, OnOk, vec_capacity};
+ghost use Rattle.unit_propagation.specs.Units.{IsOpen, IsConsistent};
+ghost use Rattle.unit_propagation.specs.Assigned.{StandsAs};
+ghost use Rattle.unit_propagation.specs.Trail.{reasons_of};
+
+use cnf_core::Lit;
+use std::alloc::{AllocError, Global};
+use std::marker::Model;
+
+/// How a literal, or a variable, stands.
+#[derive(Clone, Copy, Debug)]
+pub enum Truth {
+    Open,
+    True,
+    False,
+}
+
+impl From<bool> for Truth {
+    ghost use Rattle.std.specs.Prelude.{◌≡◌};
+    ghost use Rattle.unit_propagation.specs.Assigned.{truth_of};
+
+    ghost from_gives = { λ positive truth. truth ≡ truth_of positive };
+
+    fn from(positive: bool) -> Truth {
+        if positive { Truth::True } else { Truth::False }
+    }
+}
+
+/// Why a literal is set: by the clause of that number, or it was decided. `ended` says that propagation had
+/// ended just before.
+#[derive(Clone, Copy, Debug)]
+pub struct Cause {
+    pub reason: Option<usize>,
+    pub ended: bool,
+}
+
+/// Variables below `width` with the literals set so far, in order. Only `new` and `grow` take memory.
+#[derive(Drop)]
+pub struct Assignment {
+    values: Vec<Truth>,
+    trail: Vec<Lit>,
+    causes: Vec<Cause>,
+}
+
+impl Model for Assignment {
+    ghost use Rattle.unit_propagation.specs.Assigned.{Assigned};
+
+    ghost Value = { Assigned };
+
+    ghost use Rattle.unit_propagation.specs.Fields.{IsAssignment, assigned_of};
+
+    ghost view = { assigned_of };
+
+    ghost invariant = { IsAssignment };
+}
+
+impl Assignment {
+    /// An assignment of no variables.
+    pub fn new(alloc: Global) -> Assignment
+        ensures width { result.width ≡ 0 }
+        ensures trail { result.trail ≡ [] }
+        ensures causes { result.causes ≡ [] }
+    {
+        Assignment {
+            values: Vec::new(alloc),
+            trail: Vec::new(alloc),
+            causes: Vec::new(alloc),
+        }
+    }
+
+    /// Makes room for variables below `width`, which are open.
+    pub fn grow(&mut self, width: usize) -> Result<(), AllocError>
+        ensures grown { OnOk result (width ≤ self.new.width) }
+        ensures keeps { self.old.width ≤ self.new.width }
+        ensures trail { self.new.trail ≡ self.old.trail }
+        ensures causes { self.new.causes ≡ self.old.causes }
+    {
+        let more = width.saturating_sub(self.values.len());
+        self.trail.reserve(more + self.values.len())?;
+        self.causes.reserve(more + self.values.len())?;
+        self.values.reserve(more)?;
+        for _ in 0..more {
+            self.values.push(Truth::Open)?;
+        }
+        Ok(())
+    }
+
+    pub fn value(&self, l: Lit) -> Truth
+        requires { l.var < self.now.width }
+        ensures { StandsAs self.now.trail l result }
+    {
+        match (self.values[l.var as usize], l.positive) {
+            (Truth::Open, _) => Truth::Open,
+            (Truth::True, true) | (Truth::False, false) => Truth::True,
+            (Truth::True, false) | (Truth::False, true) => Truth::False,
+        }
+    }
+
+    /// How many literals are set.
+    pub fn count(&self) -> usize
+        ensures count { result ≡ length self.now.trail }
+        ensures within { result ≤ self.now.width }
+        ensures causes { result ≡ length self.now.causes }
+        ensures consistent { IsConsistent self.now.trail }
+    {
+        self.trail.len()
+    }
+
+    /// The literal that was set at that place of the trail.
+    pub fn nth(&self, place: usize) -> Lit
+        requires { place < length self.now.trail }
+        ensures is { slice_get self.now.trail place ≡ Some result }
+        ensures within { result.var < self.now.width }
+    {
+        self.trail[place]
+    }
+
+    /// Why the literal at that place is set.
+    pub fn cause(&self, place: usize) -> Cause
+        requires { place < length self.now.trail }
+        ensures { slice_get self.now.causes place ≡ Some result }
+    {
+        self.causes[place]
+    }
+
+    pub fn set(&mut self, l: Lit, cause: Cause)
+        requires inside { l.var < self.old.width }
+        requires is_open { IsOpen self.old.trail l }
+        ensures width { self.new.width ≡ self.old.width }
+        ensures trail { self.new.trail ≡ self.old.trail ++ l ∷ [] }
+        ensures causes { self.new.causes ≡ self.old.causes ++ cause ∷ [] }
+        ensures fits { length self.new.trail ≤ self.new.width }
+    {
+        self.values[l.var as usize] = Truth::from(l.positive);
+        if let Err(_) = self.trail.push(l) {
+            unreachable!()
+        }
+        if let Err(_) = self.causes.push(cause) {
+            unreachable!()
+        }
+    }
+
+    /// Opens the variables of the literals from a place on.
+    pub fn undo_to(&mut self, place: usize)
+        ensures width { self.new.width ≡ self.old.width }
+        ensures trail { self.new.trail ≡ take place self.old.trail }
+        ensures causes { self.new.causes ≡ take place self.old.causes }
+    {
+        while self.trail.len() > place {
+            if let Some(l) = self.trail.pop() {
+                self.values[l.var as usize] = Truth::Open;
+            }
+        }
+        self.causes.truncate(place);
+    }
+
+    /// Forgets where propagation had ended.
+    pub fn forget_ends(&mut self)
+        ensures width { self.new.width ≡ self.old.width }
+        ensures trail { self.new.trail ≡ self.old.trail }
+        ensures reasons { reasons_of self.new.causes ≡ reasons_of self.old.causes }
+        ensures not_ended { All (λ c. c.ended ≡ false) self.new.causes }
+    {
+        forget(&mut self.causes);
+    }
+}
+
+fn forget(causes: &mut Vec<Cause>)
+    ensures reasons { reasons_of causes.new.items ≡ reasons_of causes.old.items }
+    ensures not_ended { All (λ c. c.ended ≡ false) causes.new.items }
+    ensures capacity { vec_capacity causes.new ≡ vec_capacity causes.old }
+{
+    for place in 0..causes.len() {
+        causes[place].ended = false;
+    }
+}

@@ -1,0 +1,15 @@
+//! Unit propagation: clauses that are added at any time, literals that are decided, and what follows from them, each
+//! with the clause that implied it. Two literals of each clause are watched. It decides nothing by itself.
+#![tactic(auto)]
+
+mod assignment;
+mod choice;
+mod loose;
+mod pair;
+mod propagation;
+mod propagator;
+mod watch_lists;
+mod watched_clauses;
+
+pub use assignment::Truth;
+pub use propagator::Propagator;

@@ -1,0 +1,154 @@
+//! Clauses with two watched literals each, and for each literal the list of the clauses that watch it.
+
+ghost use Rattle.std.specs.Prelude.{◌≡◌, ◌<◌, ◌≤◌, ◌^◌, ◌++◌, ◌∷◌, [], ℕ, All, Some, Contains, IsTrue, OnOk, OnErr, length, slice_get, slice_set, swap_remove};
+ghost use Rattle.unit_propagation.specs.Units.{IsWithin};
+ghost use Rattle.cnf_core.specs.declared.formula.Lit.{Lit as Literal};
+ghost use Rattle.unit_propagation.specs.Watching.{watches, list_at, pair_of, IsIndexed, LeavesList, MovesWatch};
+
+use crate::pair::Pair;
+use crate::watch_lists::{add_lists, add_zeros, append, code, list_clause, make_room};
+use cnf_core::{Clause, Lit};
+use std::alloc::{AllocError, Global};
+use std::marker::Model;
+
+/// Clauses over variables below `width`. There is room in a literal's list for each clause that has it.
+#[derive(Drop)]
+pub struct WatchedClauses {
+    alloc: Global,
+    width: usize,
+    clauses: Vec<Clause>,
+    pairs: Vec<Pair>,
+    lists: Vec<Vec<usize>>,
+    held: Vec<usize>,
+}
+
+impl Model for WatchedClauses {
+    ghost use Rattle.unit_propagation.specs.Watching.{Watched};
+
+    ghost Value = { Watched };
+
+    ghost use Rattle.unit_propagation.specs.WatchedFields.{IsWatchedClauses, watched_of};
+
+    ghost view = { watched_of };
+
+    ghost invariant = { IsWatchedClauses };
+}
+
+impl WatchedClauses {
+    /// No clauses over no variables.
+    pub fn new(alloc: Global) -> WatchedClauses
+        ensures width { result.width ≡ 0 }
+        ensures clauses { result.clauses ≡ [] }
+        ensures pairs { result.pairs ≡ [] }
+    {
+        WatchedClauses {
+            alloc,
+            width: 0,
+            clauses: Vec::new(alloc),
+            pairs: Vec::new(alloc),
+            lists: Vec::new(alloc),
+            held: Vec::new(alloc),
+        }
+    }
+
+    /// Makes lists for the literals of variables below `width`.
+    pub fn grow(&mut self, width: usize) -> Result<(), AllocError>
+        requires { width < 2 ^ 62 }
+        ensures grown { OnOk result (width ≤ self.new.width) }
+        ensures keeps { self.old.width ≤ self.new.width }
+        ensures most { (n : ℕ) → self.old.width ≤ n → width ≤ n → self.new.width ≤ n }
+        ensures clauses { self.new.clauses ≡ self.old.clauses }
+        ensures pairs { self.new.pairs ≡ self.old.pairs }
+    {
+        if width <= self.width {
+            return Ok(());
+        }
+        add_lists(self.alloc, &mut self.lists, 2 * width)?;
+        add_zeros(&mut self.held, 2 * width)?;
+        self.width = width;
+        Ok(())
+    }
+
+    /// Adds the clause with its watched literals at the end.
+    pub fn add(&mut self, clause: Clause, pair: Pair) -> Result<(), AllocError>
+        requires within { IsWithin self.old.width clause }
+        requires stands { (l : Literal) → IsTrue (watches pair l) → Contains clause l }
+        ensures width { self.new.width ≡ self.old.width }
+        ensures clauses { OnOk result (self.new.clauses ≡ self.old.clauses ++ clause ∷ []) }
+        ensures pairs { OnOk result (self.new.pairs ≡ self.old.pairs ++ pair ∷ []) }
+        ensures kept { OnErr result (self.new.clauses ≡ self.old.clauses) }
+        ensures pairs_kept { OnErr result (self.new.pairs ≡ self.old.pairs) }
+    {
+        make_room(&mut self.lists, &mut self.held, clause.as_slice())?;
+        self.clauses.reserve(1)?;
+        self.pairs.reserve(1)?;
+        list_clause(&mut self.lists, pair, self.clauses.len());
+        self.clauses.push_reserved(clause);
+        self.pairs.push_reserved(pair);
+        Ok(())
+    }
+
+    /// Variable numbers are below it.
+    pub fn width(&self) -> usize
+        ensures is { result ≡ self.now.width }
+        ensures indexed { IsIndexed self.now.width self.now.clauses self.now.pairs self.now.lists }
+    {
+        self.width
+    }
+
+    pub fn clauses(&self) -> &[Clause]
+        ensures are { result.now ≡ self.now.clauses }
+        ensures within { All (IsWithin self.now.width) result.now }
+        ensures indexed { IsIndexed self.now.width self.now.clauses self.now.pairs self.now.lists }
+    {
+        self.clauses.as_slice()
+    }
+
+    /// The watched literals of the clause.
+    pub fn pair(&self, clause: usize) -> Pair
+        requires { clause < length self.now.clauses }
+        ensures is { slice_get self.now.pairs clause ≡ Some result }
+        ensures indexed { IsIndexed self.now.width self.now.clauses self.now.pairs self.now.lists }
+    {
+        self.pairs[clause]
+    }
+
+    /// How many clauses the literal's list has.
+    pub fn count(&self, l: Lit) -> usize
+        requires { l.var < self.now.width }
+        ensures is { result ≡ length (list_at self.now.lists l) }
+        ensures indexed { IsIndexed self.now.width self.now.clauses self.now.pairs self.now.lists }
+    {
+        self.lists[code(l)].len()
+    }
+
+    /// The clause at that place of the literal's list.
+    pub fn nth(&self, l: Lit, place: usize) -> usize
+        requires within { l.var < self.now.width }
+        requires inside { place < length (list_at self.now.lists l) }
+        ensures is { slice_get (list_at self.now.lists l) place ≡ Some result }
+        ensures exists { result < length self.now.clauses }
+        ensures paired { length self.now.pairs ≡ length self.now.clauses }
+    {
+        self.lists[code(l)][place]
+    }
+
+    /// Watches the clause, which is at that place of a watched literal's list, at another literal.
+    pub fn rewatch(&mut self, clause: usize, from: Lit, place: usize, other: Lit, to: Lit)
+        requires from_within { from.var < self.old.width }
+        requires to_within { to.var < self.old.width }
+        requires moves { MovesWatch self.old clause from place other to }
+        ensures width { self.new.width ≡ self.old.width }
+        ensures clauses { self.new.clauses ≡ self.old.clauses }
+        ensures pairs { self.new.pairs ≡ slice_set self.old.pairs clause (pair_of other to) }
+        ensures list { LeavesList self.old.lists self.new.lists from place clause }
+    {
+        let list = &mut self.lists[code(from)];
+        list.swap_remove(place);
+        self.pairs[clause] = Pair {
+            first: other,
+            second: to,
+        };
+        append(&mut self.lists, to, clause);
+    }
+}
