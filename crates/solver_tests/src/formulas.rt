@@ -39,7 +39,11 @@ fn a_clause_is_true_where_a_literal_is(rt: HostRuntime) -> Result<(), Fail> {
     for (lits, truths, expected) in CLAUSES {
         let clause = literals(rt.alloc(), lits)?;
         let valuation = Items::from_slice(rt.alloc(), truths)?;
-        assert_eq!(rt; truth(&clause, &valuation), expected, "{lits:?} under {truths:?}");
+        assert_eq!(rt;
+            truth(&clause, &valuation),
+            expected,
+            "{lits:?} under {truths:?}"
+        );
     }
     for (number, negation) in [(1, -1), (-1, 1), (4, -4), (-77, 77), (i32::MAX, -i32::MAX)] {
         assert_eq!(rt; literal(number).denied(), literal(negation), "{number}");

@@ -7,4 +7,6 @@ mod derivations;
 #[cfg(test)]
 mod formulas;
 #[cfg(test)]
+mod propagators;
+#[cfg(test)]
 mod signed;

@@ -6,7 +6,7 @@ use sqlite_items::Items;
 use std::alloc::{AllocError, Global};
 
 /// More than any variable of a test.
-const VARIABLES: u32 = 32;
+pub const VARIABLES: u32 = 32;
 
 pub fn literal(number: i32) -> Lit {
     Lit {
@@ -52,8 +52,12 @@ impl Set {
         set
     }
 
-    pub fn one(number: i32) -> Set {
-        Set::EMPTY.with(literal(number))
+    pub fn of_literals(lits: &[Lit]) -> Set {
+        let mut set = Set::EMPTY;
+        for l in lits {
+            set = set.with(*l);
+        }
+        set
     }
 
     pub fn with(self, l: Lit) -> Set {

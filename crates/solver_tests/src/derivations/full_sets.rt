@@ -154,7 +154,7 @@ impl Trial {
         let mut before = Set::EMPTY;
         let mut last = Set::EMPTY;
         for l in cube {
-            last = Set::one(*l);
+            last = Set::of(&[*l]);
             let others = propagate(self.known.as_slice(), decided.without(last), &mut used)?;
             if others.conflicts {
                 return Ok(false);
