@@ -12,3 +12,4 @@ mod SpelledLemmas
 mod BeginsLemmas
 mod LiteralLemmas
 mod PlaceLemmas
+mod SpellingLemmas
