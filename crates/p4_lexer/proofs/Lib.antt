@@ -13,3 +13,4 @@ mod BeginsLemmas
 mod LiteralLemmas
 mod PlaceLemmas
 mod SpellingLemmas
+mod LineLemmas

@@ -5,6 +5,7 @@
 
 mod classes;
 mod limits;
+mod lines;
 mod numbers;
 mod piece;
 mod pieces;
@@ -15,6 +16,7 @@ mod token;
 mod values;
 
 pub use limits::MAX_WORDS;
+pub use lines::line_pieces;
 pub use piece::{Kind, Piece};
 pub use pieces::piece_at;
 pub use places::{first_bad_byte, place_behind};
