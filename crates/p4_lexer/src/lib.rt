@@ -1,6 +1,7 @@
-//! The words of a P4 source, as far as they are built: what begins at a place of a text, what a number stands for
-//! and where a byte stands. `specs/` defines the tokens of a whole source in layers; no function meets the later ones
-//! (directives, macros, annotations, marks) yet, so a scan of whole sources is not built.
+//! The words of a P4 source, as far as they are built: what begins at a place of a text, the pieces of a text's first
+//! line, what a number stands for, which keyword, reserved word or sign a spelling is, and where a byte stands. `specs/`
+//! defines the tokens of a whole source in layers; no function meets the later ones (directives, macros, annotations,
+//! marks) yet, so a scan of whole sources is not built.
 #![tactic(auto)]
 
 mod classes;
