@@ -12,3 +12,5 @@ mod SpelledLemmas
 mod BeginsLemmas
 mod LiteralLemmas
 mod PlaceLemmas
+mod SpellingLemmas
+mod LineLemmas
