@@ -14,3 +14,4 @@ mod LiteralLemmas
 mod PlaceLemmas
 mod SpellingLemmas
 mod LineLemmas
+mod RestLemmas
