@@ -2,8 +2,8 @@
 //! keywords, reserved words and signs, places behind bytes, and bytes that are no text.
 
 use p4_lexer::{
-    Keyword, Kind, Piece, Reserved, Sign, first_bad_byte, keyword_of, line_pieces, literal,
-    piece_at, place_behind, reserved_of, sign_of,
+    Keyword, Kind, Piece, Reserved, Sign, first_bad_byte, keyword_of, lead_len, line_pieces,
+    literal, piece_at, place_behind, reserved_of, rest_of_line_len, sign_of,
 };
 use std::alloc::{AllocError, Global};
 use std::test::Fail;
@@ -89,6 +89,17 @@ const LINES: [(&str, &str); 9] = [
     ("\"a\\\n\" x", "T5 "),
     ("x \"a\ny", "N1 B1 t2 B1 "),
     ("5/* a\n\n", "I1 c6 "),
+];
+
+/// Texts, the blanks before the `#` that begins the line, and the bytes of the line.
+const STARTS: [(&str, Option<usize>, usize); 7] = [
+    ("#if", Some(0), 3),
+    (" \t#x\ny", Some(2), 5),
+    ("\r#\n", Some(1), 3),
+    ("\n#", None, 1),
+    ("a #\n#", None, 4),
+    ("  ", None, 2),
+    ("/* */#", None, 6),
 ];
 
 /// Spellings, and the keyword, the reserved word or the sign that each is.
@@ -190,6 +201,14 @@ fn lines_end_and_spellings_are_known(rt: HostRuntime) -> Result<(), Fail> {
     for (text, pieces) in LINES {
         let got = first_line(rt.alloc(), text)?;
         assert_eq!(rt; got.as_str(), pieces, "{text}");
+    }
+    for (text, lead, len) in STARTS {
+        let bytes = text.as_bytes();
+        if bytes.is_empty() {
+            return Err("an empty row".into());
+        }
+        assert_eq!(rt; lead_len(bytes), lead, "{text}");
+        assert_eq!(rt; rest_of_line_len(bytes), len, "{text}");
     }
     for (text, keyword, reserved, sign) in SPELLINGS {
         let spelling = text.as_bytes();
