@@ -1,9 +1,9 @@
--- Literals: two are equal where their variables and signs are, and the denial of a denial is the literal.
+-- Literals: two are equal where their variables and signs are, and the negation of a negation is the literal.
 use Rattle.std.proofs.Common.{◌≡◌, ◌≢◌, ℕ, Bool, true, false, not, ◌&&◌, eqb, refl, ap, sym, ◌∙◌, ◌⊎◌, inl, inr}
 use Rattle.std.proofs.Math.Bool.{beq}
 use Rattle.std.proofs.lemmas.Bool.{eqb-true, eq-eqb, and_parts, and_from, both_ways}
 use Rattle.cnf_core.specs.declared.formula.Lit.{Lit}
-use Rattle.cnf_core.specs.Literal.{denial}
+use Rattle.cnf_core.specs.Literal.{negation}
 
 abbrev pub lit : ℕ → Bool → Lit
 lit var positive = record { var = var; positive = positive }
@@ -15,12 +15,12 @@ no_lit = lit 0 false
 pub lit-same : (k l : Lit) → k.var ≡ l.var → k.positive ≡ l.positive → k ≡ l
 lit-same k l vars signs = ap (λ (v : ℕ). lit v k.positive) vars ∙ ap (λ (b : Bool). lit l.var b) signs
 
-denial-denial_at : (v : ℕ) (b : Bool) → denial (denial (lit v b)) ≡ lit v b
-denial-denial_at v true = refl
-denial-denial_at v false = refl
+negation_negation_at : (v : ℕ) (b : Bool) → negation (negation (lit v b)) ≡ lit v b
+negation_negation_at v true = refl
+negation_negation_at v false = refl
 
-pub denial-denial : (l : Lit) → denial (denial l) ≡ l
-denial-denial l = denial-denial_at l.var l.positive
+pub negation_negation : (l : Lit) → negation (negation l) ≡ l
+negation_negation l = negation_negation_at l.var l.positive
 
 beq-same : (a b : Bool) → beq a b ≡ true → a ≡ b
 beq-same true true e = refl
@@ -54,20 +54,20 @@ true_or_false false = inr refl
 pub lit-cases : (a b : Lit) → (a ≡ b) ⊎ (a ≢ b)
 lit-cases a b = elim (true_or_false (lit_eq a b)) [ inl same ↦ inl (lit_eq-true a b same) | inr other ↦ inr (lit_eq-false a b other) ]
 
--- two literals of one variable are equal, or each is the other's denial
-signs-cases : (v : ℕ) (a b : Bool) → (lit v a ≡ lit v b) ⊎ (lit v a ≡ denial (lit v b))
+-- two literals of one variable are equal, or each is the other's negation
+signs-cases : (v : ℕ) (a b : Bool) → (lit v a ≡ lit v b) ⊎ (lit v a ≡ negation (lit v b))
 signs-cases v true true = inl refl
 signs-cases v true false = inr refl
 signs-cases v false true = inr refl
 signs-cases v false false = inl refl
 
-pub same_var-cases : (a b : Lit) → a.var ≡ b.var → (a ≡ b) ⊎ (a ≡ denial b)
+pub same_var-cases : (a b : Lit) → a.var ≡ b.var → (a ≡ b) ⊎ (a ≡ negation b)
 same_var-cases a b vars =
     let shift : a ≡ lit b.var a.positive = ap (λ (v : ℕ). lit v a.positive) vars in
     elim (signs-cases b.var a.positive b.positive) [ inl same ↦ inl (shift ∙ same) | inr other ↦ inr (shift ∙ other) ]
 
-pub denial-not_itself : (l : Lit) → l ≡ denial l → ⊥
-denial-not_itself l e = not_itself l.positive (ap (λ (k : Lit). k.positive) e) where
+pub negation-not_itself : (l : Lit) → l ≡ negation l → ⊥
+negation-not_itself l e = not_itself l.positive (ap (λ (k : Lit). k.positive) e) where
   not_itself : (b : Bool) → b ≡ not b → ⊥
   not_itself true h = absurd (cc)
   not_itself false h = absurd (cc)

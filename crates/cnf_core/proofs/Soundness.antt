@@ -6,34 +6,34 @@ use Rattle.std.proofs.lemmas.Bool.{both_ways, not_from_true, cases_Bool}
 use Rattle.std.proofs.lemmas.Option.{get_or_from_slice_get}
 use Rattle.std.proofs.lemmas.List.Elements.{All-contains}
 use Rattle.cnf_core.specs.declared.formula.Lit.{Lit}
-use Rattle.cnf_core.specs.Literal.{denial, LitSet}
+use Rattle.cnf_core.specs.Literal.{negation, LitSet}
 use Rattle.cnf_core.specs.Truth.{Satisfies, SatisfiesAll}
 use Rattle.cnf_core.specs.Propagation.{IsClosed, Sets, Conflicts}
 use Rattle.cnf_core.proofs.Literals.{lit-cases}
 
--- a set that has one of each literal and its denial: a valuation of all variables
+-- a set that has one of each literal and its negation: a valuation of all variables
 abbrev pub IsComplete : LitSet → Type 0
-IsComplete set = (l : Lit) → set (denial l) ≡ not (set l)
+IsComplete set = (l : Lit) → set (negation l) ≡ not (set l)
 
 -- some literal of the clause is in the set
 abbrev pub Meets : LitSet → List Lit → Type 0
 Meets set clause = Any (λ l. IsTrue (set l)) clause
 
-pub not_both : (set : LitSet) (l : Lit) → IsComplete set → IsTrue (set l) → IsTrue (set (denial l)) → ⊥
-not_both set l complete holds denied = both_ways (set (denial l)) (complete l ∙ not_from_true (set l) holds) denied
+pub not_both : (set : LitSet) (l : Lit) → IsComplete set → IsTrue (set l) → IsTrue (set (negation l)) → ⊥
+not_both set l complete holds falsified = both_ways (set (negation l)) (complete l ∙ not_from_true (set l) holds) falsified
 
 -- a clause that the set meets gives what it leaves
 pub meets-leaves : (set : LitSet) (clause : List Lit) (l : Lit) → IsComplete set → Meets set clause →
-    All (λ k. k ≢ l → IsTrue (set (denial k))) clause → IsTrue (set l)
+    All (λ k. k ≢ l → IsTrue (set (negation k))) clause → IsTrue (set l)
 meets-leaves set clause l complete (i, x, inside, at, holds) leaves = elim (lit-cases x l) [
   | inl same ↦ subst (λ (k : Lit). IsTrue (set k)) same holds
   | inr differs ↦ absurd (not_both set x complete holds
-      (All-contains (λ k. k ≢ l → IsTrue (set (denial k))) clause x leaves (i, inside, at) differs))
+      (All-contains (λ k. k ≢ l → IsTrue (set (negation k))) clause x leaves (i, inside, at) differs))
 ]
 
 pub no_conflict-meets : (set : LitSet) (clauses : List (List Lit)) (decided : List Lit) → IsComplete set → All (Meets set) clauses →
     All (λ l. IsTrue (set l)) decided → Conflicts clauses decided → ⊥
-no_conflict-meets set clauses decided complete meets decides (k, clause, inside, at, denied) = none (here) where
+no_conflict-meets set clauses decided complete meets decides (k, clause, inside, at, falsified) = none (here) where
   closed : IsClosed clauses decided set
   closed = record {
     decides = decides;
@@ -45,9 +45,9 @@ no_conflict-meets set clauses decided complete meets decides (k, clause, inside,
 
   none : Meets set clause → ⊥
   none (i, x, in_clause, x_at, holds) =
-      not_both set x complete holds (All-contains (λ l. Sets clauses decided (denial l)) clause x denied (i, in_clause, x_at) set closed)
+      not_both set x complete holds (All-contains (λ l. Sets clauses decided (negation l)) clause x falsified (i, in_clause, x_at) set closed)
 
--- the set of the literals that a valuation makes true; of variables past its end the denials
+-- the set of the literals that a valuation makes true; of variables past its end the negations
 abbrev pub true_literals : List Bool → LitSet
 true_literals valuation l = beq (get_or valuation (l.var - 1) false) l.positive
 

@@ -3,8 +3,8 @@ use Rattle.std.specs.Prelude.{◌≢◌, Bool, not, List, AllPairs}
 use Rattle.cnf_core.specs.declared.formula.Lit.{Lit}
 
 -- the literal of the same variable and the other sign
-abbrev pub denial : Lit → Lit
-denial l = record { var = l.var; positive = not l.positive }
+abbrev pub negation : Lit → Lit
+negation l = record { var = l.var; positive = not l.positive }
 
 -- a set of literals, as the test for its members
 abbrev pub LitSet : Type 0

@@ -1,23 +1,26 @@
 //! Literals, clauses and formulas, and the truth of a clause under a valuation.
 
 ghost use Rattle.std.specs.Prelude.{◌≡◌, ◌↔◌, IsTrue};
-ghost use Rattle.cnf_core.specs.Literal.{denial};
+ghost use Rattle.cnf_core.specs.Literal.{negation};
 ghost use Rattle.cnf_core.specs.Truth.{HasVariables, Satisfies};
 
 use sqlite_items::Items;
+use std::ops::Not;
 
-/// A variable, by its number from 1, or its denial where `positive` is false.
+/// A variable, by its number from 1, or its negation where `positive` is false.
 #[derive(Clone, Copy, Debug, PartialEq, Eq, PartialOrd, Ord, Hash)]
 pub struct Lit {
     pub var: u32,
     pub positive: bool,
 }
 
-impl Lit {
-    /// The literal of the same variable and the other sign.
-    pub fn denied(self) -> Lit
-        ensures { result ≡ denial self }
-    {
+/// The literal of the same variable and the other sign.
+impl Not for Lit {
+    type Output = Lit;
+
+    ghost not_gives = { λ l result. result ≡ negation l };
+
+    fn not(self) -> Lit {
         Lit {
             var: self.var,
             positive: !self.positive,

@@ -7,6 +7,3 @@ mod formula;
 
 pub use derivation::{Cube, Derived, Hints, Step, Steps, Var};
 pub use formula::{Clause, Clauses, Lit, Valuation, holds};
-
-#[cfg(test)]
-mod tests;

@@ -41,11 +41,11 @@ fn values_stand_for_themselves(rt: HostRuntime) -> Result<(), Fail> {
     let resolution = Resolution::from_slice(rt.alloc(), &[byte(7), byte(9)])?;
     let mut domain = ConcreteDomain::new(&resolution);
     let (a, b) = (byte(0xf0), byte(0x21));
+    let reads = (domain.unspecified(0, 8)?, domain.unspecified(1, 8)?);
     for (op, width, value) in OPERATORS {
         let result = domain.binary(op, &a, &b)?;
         assert_eq!(rt; number(result), (width, value), "{op:?}");
     }
-    let reads = (domain.unspecified(0, 8)?, domain.unspecified(1, 8)?);
     let constant = domain.constant(b)?;
     let opposite = (domain.unary(Op::Not, &a)?, domain.unary(Op::Neg, &a)?);
     let cut = domain.slice(&a, 6, 3)?;

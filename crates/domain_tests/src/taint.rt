@@ -3,6 +3,8 @@ ghost use Rattle.std.specs.Prelude.{◌≡◌};
 
 use crate::generic::{byte, square_all, square_and_one};
 use bits_core::Op;
+use std::alloc::AllocError;
+use std::process::Abort;
 use std::test::Fail;
 use taint_domain::{TaintDomain, TaintFlag, Tainted};
 use value_domain::Domain;
@@ -233,8 +235,7 @@ fn parts(value: Tainted) -> (u8, u128, u128) {
     (value.number.width, value.number.value, value.mask.value)
 }
 
-#[test]
-fn masks_are_those_by_hand(rt: HostRuntime) -> Result<(), Fail> {
+fn masks_of_operators(rt: &impl Abort) -> Result<(), Fail> {
     let mut domain = TaintDomain::new();
     for (op, first, second, number, mask) in OPERATORS {
         let value = domain.binary(op, &tainted(first), &tainted(second))?;
@@ -244,16 +245,26 @@ fn masks_are_those_by_hand(rt: HostRuntime) -> Result<(), Fail> {
             "{op:?} {first:?} {second:?}"
         );
     }
+    Ok(())
+}
+
+/// What `PARTS` has of a value.
+fn parts_of(of: Byte) -> Result<[Tainted; 6], AllocError> {
+    let mut domain = TaintDomain::new();
+    let a = tainted(of);
+    Ok([
+        domain.unary(Op::Neg, &a)?,
+        domain.unary(Op::Not, &a)?,
+        domain.slice(&a, 5, 2)?,
+        domain.extend(&a, 12, true)?,
+        domain.extend(&a, 12, false)?,
+        domain.extend(&a, 4, true)?,
+    ])
+}
+
+fn masks_of_parts(rt: &impl Abort) -> Result<(), Fail> {
     for (of, expected) in PARTS {
-        let a = tainted(of);
-        let values = [
-            domain.unary(Op::Neg, &a)?,
-            domain.unary(Op::Not, &a)?,
-            domain.slice(&a, 5, 2)?,
-            domain.extend(&a, 12, true)?,
-            domain.extend(&a, 12, false)?,
-            domain.extend(&a, 4, true)?,
-        ];
+        let values = parts_of(of)?;
         for i in 0..6 {
             let value = values[i];
             assert_eq!(rt;
@@ -263,6 +274,11 @@ fn masks_are_those_by_hand(rt: HostRuntime) -> Result<(), Fail> {
             );
         }
     }
+    Ok(())
+}
+
+fn masks_of_generic_code(rt: &impl Abort) -> Result<(), Fail> {
+    let mut domain = TaintDomain::new();
     for (of, number, mask) in SQUARES {
         let value = square_and_one(&mut domain, &tainted(of))?;
         assert_eq!(rt; parts(value), (8, number, mask), "{of:?}");
@@ -277,28 +293,48 @@ fn masks_are_those_by_hand(rt: HostRuntime) -> Result<(), Fail> {
 }
 
 #[test]
-fn flags_and_choices_are_those_by_hand(rt: HostRuntime) -> Result<(), Fail> {
+fn masks_are_those_by_hand(rt: HostRuntime) -> Result<(), Fail> {
+    masks_of_operators(&rt)?;
+    masks_of_parts(&rt)?;
+    masks_of_generic_code(&rt)
+}
+
+fn truths_of_tests(rt: &impl Abort) -> Result<(), Fail> {
     let mut domain = TaintDomain::new();
     for (op, first, second, truth, may_differ) in TESTS {
         let test = domain.compare(op, &tainted(first), &tainted(second))?;
         assert_eq!(rt;
-            test,
-            flag(truth, may_differ),
+            (test, test.is_known()),
+            (flag(truth, may_differ), !may_differ),
             "{op:?} {first:?} {second:?}"
         );
-        assert_eq!(rt; test.is_known(), !may_differ, "{op:?} {first:?} {second:?}");
     }
+    Ok(())
+}
+
+fn combinations_of_flags(rt: &impl Abort) -> Result<(), Fail> {
+    let mut domain = TaintDomain::new();
     for (f, g, both, either) in FLAGS {
         let found = (domain.both(&f, &g)?, domain.either(&f, &g)?);
         assert_eq!(rt; found, (both, either), "{f:?} {g:?}");
     }
+    let opposite = (domain.not(&OFF)?, domain.not(&TRUE)?, domain.fixed(true)?);
+    assert_eq!(rt; opposite, (ON, FALSE, TRUE));
+    Ok(())
+}
+
+fn choices_of_sides(rt: &impl Abort) -> Result<(), Fail> {
+    let mut domain = TaintDomain::new();
     for (f, first, second, number, mask) in CHOICES {
         let value = domain.choose(&f, &tainted(first), &tainted(second))?;
         assert_eq!(rt; parts(value), (8, number, mask), "{f:?}");
     }
-    let opposite = (domain.not(&OFF)?, domain.not(&TRUE)?, domain.fixed(true)?);
-    assert_eq!(rt; opposite, (ON, FALSE, TRUE));
-    // where the read gives 0 it is not 1, and the choice is the second side
+    Ok(())
+}
+
+/// Where the read gives 0 it is not 1, and the choice is the second side.
+fn choice_under_a_read(rt: &impl Abort) -> Result<(), Fail> {
+    let mut domain = TaintDomain::new();
     let (read, one) = (domain.unspecified(0, 8)?, domain.constant(byte(1))?);
     let is_one = domain.compare(Op::Eq, &read, &one)?;
     let chosen = domain.choose(&is_one, &tainted((10, 0)), &tainted((11, 0)))?;
@@ -306,4 +342,12 @@ fn flags_and_choices_are_those_by_hand(rt: HostRuntime) -> Result<(), Fail> {
     assert_eq!(rt; (read.is_clear(), one.is_clear()), (false, true));
     assert_eq!(rt; (is_one, parts(chosen)), (OFF, (8, 11, 0x01)));
     Ok(())
+}
+
+#[test]
+fn flags_and_choices_are_those_by_hand(rt: HostRuntime) -> Result<(), Fail> {
+    truths_of_tests(&rt)?;
+    combinations_of_flags(&rt)?;
+    choices_of_sides(&rt)?;
+    choice_under_a_read(&rt)
 }

@@ -1,7 +1,10 @@
-//! The words of a source: whole texts cut into their pieces, what numbers stand for, places behind bytes, and bytes that
-//! are no text.
+//! The words of a source: whole texts and single lines cut into their pieces, what numbers stand for, which words are
+//! keywords, reserved words and signs, places behind bytes, and bytes that are no text.
 
-use p4_lexer::{Kind, first_bad_byte, literal, piece_at, place_behind};
+use p4_lexer::{
+    Keyword, Kind, Piece, Reserved, Sign, first_bad_byte, keyword_of, lead_len, line_pieces,
+    literal, piece_at, place_behind, reserved_of, rest_of_line_len, sign_of,
+};
 use std::alloc::{AllocError, Global};
 use std::test::Fail;
 use tg_base::{IntType, IntValue, Literal, Span};
@@ -75,6 +78,50 @@ const NUMBERS: [(&str, IntType, IntValue); 10] = [
     ),
 ];
 
+/// Texts, and the pieces of their first lines.
+const LINES: [(&str, &str); 9] = [
+    ("", ""),
+    ("else", "N4 "),
+    ("\nx", "B1 "),
+    ("ifdef A // x\nB", "N5 B1 N1 B1 C4 B1 "),
+    ("include <core.p4>\r\n#", "N7 B1 S1 N4 S1 N2 S1 B1 B1 "),
+    ("a/* \n */ b\n", "N1 C7 "),
+    ("\"a\\\n\" x", "T5 "),
+    ("x \"a\ny", "N1 B1 t2 B1 "),
+    ("5/* a\n\n", "I1 c6 "),
+];
+
+/// Texts, the blanks before the `#` that begins the line, and the bytes of the line.
+const STARTS: [(&str, Option<usize>, usize); 7] = [
+    ("#if", Some(0), 3),
+    (" \t#x\ny", Some(2), 5),
+    ("\r#\n", Some(1), 3),
+    ("\n#", None, 1),
+    ("a #\n#", None, 4),
+    ("  ", None, 2),
+    ("/* */#", None, 6),
+];
+
+/// Spellings, and the keyword, the reserved word or the sign that each is.
+const SPELLINGS: [(&str, Option<Keyword>, Option<Reserved>, Option<Sign>); 16] = [
+    ("", None, None, None),
+    ("action", Some(Keyword::Action), None, None),
+    ("actions", Some(Keyword::Actions), None, None),
+    ("in", Some(Keyword::In), None, None),
+    ("header", Some(Keyword::Header), None, None),
+    ("typedef", Some(Keyword::Typedef), None, None),
+    ("Action", None, None, None),
+    ("lookahead", None, None, None),
+    ("extern", None, Some(Reserved::Extern), None),
+    ("header_union", None, Some(Reserved::HeaderUnion), None),
+    ("value_set", None, Some(Reserved::ValueSet), None),
+    ("&&&", None, None, Some(Sign::Mask)),
+    ("&&", None, None, Some(Sign::And)),
+    ("|-|", None, None, Some(Sign::SaturatingMinus)),
+    ("_", None, None, Some(Sign::Underscore)),
+    ("|-", None, None, None),
+];
+
 fn letter(kind: Kind) -> &'static str {
     match kind {
         Kind::Blank => "B",
@@ -90,24 +137,37 @@ fn letter(kind: Kind) -> &'static str {
     }
 }
 
+/// A piece as the tables show it.
+fn shown(alloc: Global, piece: Piece) -> Result<String, AllocError> {
+    let (mark, len) = (letter(piece.kind), piece.len);
+    format!(in alloc; "{mark}{len} ")
+}
+
 /// The pieces of a text, as the table shows them.
 fn cut(alloc: Global, text: &str) -> Result<String, AllocError> {
-    let mut shown = String::new(alloc);
+    let mut pieces = String::new(alloc);
     let mut rest = text.as_bytes();
     for _piece in 0..text.len() {
         if rest.is_empty() {
             break;
         }
         let piece = piece_at(rest);
-        let (mark, len) = (letter(piece.kind), piece.len);
-        let word = format!(in alloc; "{mark}{len} ")?;
-        shown.push_str(word.as_str())?;
-        let Some(next) = rest.get(len..) else {
+        pieces.push_str(shown(alloc, piece)?.as_str())?;
+        let Some(next) = rest.get(piece.len..) else {
             break;
         };
         rest = next;
     }
-    Ok(shown)
+    Ok(pieces)
+}
+
+/// The pieces of the first line of a text.
+fn first_line(alloc: Global, text: &str) -> Result<String, AllocError> {
+    let mut pieces = String::new(alloc);
+    for piece in line_pieces(alloc, text.as_bytes())?.as_slice() {
+        pieces.push_str(shown(alloc, *piece)?.as_str())?;
+    }
+    Ok(pieces)
 }
 
 /// What the number at the start of the text stands for.
@@ -132,6 +192,29 @@ fn texts_are_cut_and_numbers_are_read(rt: HostRuntime) -> Result<(), Fail> {
         let found = number_at(rt.alloc(), text.as_bytes())?.ok_or("no number")?;
         assert_eq!(rt; found.int_type, int_type, "{text}");
         assert_eq!(rt; found.value, value, "{text}");
+    }
+    Ok(())
+}
+
+#[test]
+fn lines_end_and_spellings_are_known(rt: HostRuntime) -> Result<(), Fail> {
+    for (text, pieces) in LINES {
+        let got = first_line(rt.alloc(), text)?;
+        assert_eq!(rt; got.as_str(), pieces, "{text}");
+    }
+    for (text, lead, len) in STARTS {
+        let bytes = text.as_bytes();
+        if bytes.is_empty() {
+            return Err("an empty row".into());
+        }
+        assert_eq!(rt; lead_len(bytes), lead, "{text}");
+        assert_eq!(rt; rest_of_line_len(bytes), len, "{text}");
+    }
+    for (text, keyword, reserved, sign) in SPELLINGS {
+        let spelling = text.as_bytes();
+        assert_eq!(rt; keyword_of(spelling), keyword, "{text}");
+        assert_eq!(rt; reserved_of(spelling), reserved, "{text}");
+        assert_eq!(rt; sign_of(spelling), sign, "{text}");
     }
     Ok(())
 }

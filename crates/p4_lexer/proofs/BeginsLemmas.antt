@@ -65,3 +65,10 @@ only text p e own k n b =
     let down : n ≤ p.len = own.longest k n b.within b.piece in
     let len : n ≡ p.len = omega arith in
     (same_kind text k n p e own b len (stray_or k) (stray_or p.kind), len)
+
+-- no piece begins a text of no bytes
+pub no_piece_of_none : (k : Kind) (n : ℕ) → Begins [] k n → ⊥
+no_piece_of_none k n b = elim (stray_or k) [
+  | inl stray ↦ let one : length (take n []) ≡ 1 = subst (λ z. IsPiece z (take n [])) stray b.piece in omega (arith, length-take-le {A = ℕ} n [] b.within, b.within)
+  | inr other ↦ elim (front_fits k [] n b.within b.piece other) [ inl less ↦ omega arith | inr same ↦ other same.1 ]
+]

@@ -12,3 +12,6 @@ mod SpelledLemmas
 mod BeginsLemmas
 mod LiteralLemmas
 mod PlaceLemmas
+mod SpellingLemmas
+mod LineLemmas
+mod RestLemmas

@@ -8,7 +8,7 @@ use Rattle.p4_lexer.specs.declared.piece.Kind.{Kind}
 use Rattle.p4_lexer.specs.declared.piece.Kind.TheVariants.{Blank, Comment, Name, Number, Text, Sign, Annotation, OpenComment, OpenText, Stray}
 use Rattle.p4_lexer.specs.declared.piece.Piece.{Piece}
 use Rattle.p4_lexer.specs.declared.classes.Class.{Class}
-use Rattle.p4_lexer.specs.declared.classes.Class.TheVariants.{InName, InDigits, InLine}
+use Rattle.p4_lexer.specs.declared.classes.Class.TheVariants.{InName, InDigits, InLine, InLead}
 use Rattle.p4_lexer.specs.declared.classes.Head.{Head}
 use Rattle.p4_lexer.specs.declared.classes.Head.TheVariants.{NameHead, DigitHead, BlankHead, QuotationMark, Slash, AtSign, OtherHead}
 use Rattle.p4_lexer.specs.Bytes.{line_feed, quotation_mark, star, slash, at_sign, backslash, underscore, is_blank, begins_name, is_in_name}
@@ -20,6 +20,7 @@ abbrev pub has : Class → ℕ → Bool
 has InName c = is_in_name c
 has (InDigits base) c = is_in_digits base c
 has InLine c = not (c == line_feed)
+has InLead c = is_blank c && not (c == line_feed)
 
 -- what begins with a byte
 abbrev pub head_of : ℕ → Head

@@ -7,6 +7,7 @@ pub mod Pieces
 pub mod Lengths
 pub mod Places
 pub mod Cuts
+pub mod Lines
 pub mod Directives
 pub mod Scope
 pub mod Parts

@@ -14,6 +14,8 @@ pub(crate) enum Class {
     InDigits(u8),
     /// All but the line feed.
     InLine,
+    /// Blanks but the line feed.
+    InLead,
 }
 
 /// What begins with a byte.
@@ -93,6 +95,7 @@ fn has(class: Class, c: u8) -> bool
         Class::InName => is_in_name(c),
         Class::InDigits(base) => is_in_digits(base, c),
         Class::InLine => c != b'\n',
+        Class::InLead => is_blank(c) && c != b'\n',
     }
 }
 

@@ -1,11 +1,11 @@
--- No variable stands twice: in a list with one more literal, in a front, and in the list of denials.
+-- No variable stands twice: in a list with one more literal, in a front, and in the list of negations.
 use Rattle.std.proofs.Common.{◌≡◌, ◌≢◌, ℕ, ◌<◌, List, [], ◌∷◌, ◌++◌, length, get_or, take, drop, map, inl, inr, ap, sym, ◌∙◌, subst, arith, length-append}
 use Rattle.std.specs.Prelude.{Contains}
 use Rattle.std.proofs.lemmas.List.{get_or_append_left, get_or-map, take-append-drop, length-map}
 use Rattle.std.proofs.lemmas.List.Elements.{Contains-get_or}
 use Rattle.std.proofs.lemmas.List.Quantifiers.{all_pairs_push}
 use Rattle.cnf_core.specs.declared.formula.Lit.{Lit}
-use Rattle.cnf_core.specs.Literal.{denial, IsApart}
+use Rattle.cnf_core.specs.Literal.{negation, IsApart}
 use Rattle.cnf_core.proofs.Literals.{same_var-cases}
 use Rattle.refutation_checker.specs.Hints.{IsOpen}
 
@@ -14,7 +14,7 @@ pub apart-open : (trail : List Lit) (l : Lit) → IsApart trail → IsOpen trail
 apart-open trail l apart is_open = all_pairs_push (λ k m. k.var ≢ m.var) trail l apart
     (λ k d inside same. elim (same_var-cases (get_or trail k d) l same) [
       | inl is_l ↦ is_open.0 (subst (Contains trail) is_l (Contains-get_or trail k d inside))
-      | inr denied ↦ is_open.1 (subst (Contains trail) denied (Contains-get_or trail k d inside))
+      | inr falsified ↦ is_open.1 (subst (Contains trail) falsified (Contains-get_or trail k d inside))
     ])
 
 pub apart-front : (xs ys : List Lit) → IsApart (xs ++ ys) → IsApart xs
@@ -25,15 +25,15 @@ apart-front xs ys apart i j d below inside same =
 pub apart-take : (n : ℕ) (xs : List Lit) → IsApart xs → IsApart (take n xs)
 apart-take n xs apart = apart-front (take n xs) (drop n xs) (subst IsApart (sym (take-append-drop n xs)) apart)
 
-var-denials : (xs : List Lit) (i : ℕ) (d : Lit) → i < length xs → (get_or (map denial xs) i d).var ≡ (get_or xs i d).var
-var-denials xs i d inside = ap (λ (m : Lit). m.var) (get_or-map denial xs i d d inside)
+var-negations : (xs : List Lit) (i : ℕ) (d : Lit) → i < length xs → (get_or (map negation xs) i d).var ≡ (get_or xs i d).var
+var-negations xs i d inside = ap (λ (m : Lit). m.var) (get_or-map negation xs i d d inside)
 
-pub apart-denials : (xs : List Lit) → IsApart xs → IsApart (map denial xs)
-apart-denials xs apart i j d below inside same =
-    let size = length-map xs denial in
-    apart i j d below (omega arith) (sym (var-denials xs i d (omega arith)) ∙ same ∙ var-denials xs j d (omega arith))
+pub apart-negations : (xs : List Lit) → IsApart xs → IsApart (map negation xs)
+apart-negations xs apart i j d below inside same =
+    let size = length-map xs negation in
+    apart i j d below (omega arith) (sym (var-negations xs i d (omega arith)) ∙ same ∙ var-negations xs j d (omega arith))
 
-pub apart-from_denials : (xs : List Lit) → IsApart (map denial xs) → IsApart xs
-apart-from_denials xs apart i j d below inside same =
-    let size = length-map xs denial in
-    apart i j d below (omega arith) (var-denials xs i d (omega arith) ∙ same ∙ sym (var-denials xs j d (omega arith)))
+pub apart-from_negations : (xs : List Lit) → IsApart (map negation xs) → IsApart xs
+apart-from_negations xs apart i j d below inside same =
+    let size = length-map xs negation in
+    apart i j d below (omega arith) (var-negations xs i d (omega arith) ∙ same ∙ sym (var-negations xs j d (omega arith)))

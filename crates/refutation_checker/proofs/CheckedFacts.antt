@@ -11,7 +11,7 @@ use Rattle.cnf_core.specs.declared.formula.Lit.{Lit}
 use Rattle.cnf_core.specs.declared.derivation.Step.{Step as StepLine}
 use Rattle.cnf_core.specs.declared.derivation.Derived.{Derived}
 use Rattle.cnf_core.specs.declared.derivation.Derived.TheVariants.{Cube, Step}
-use Rattle.cnf_core.specs.Literal.{denial}
+use Rattle.cnf_core.specs.Literal.{negation}
 use Rattle.refutation_checker.specs.Derivation.{Derivation, clause_of, known, before, extended}
 use Rattle.refutation_checker.specs.Acceptance.{FollowsByHints, MayFollow, IsAccepted, IsEmptyStep, HasEmptyStep}
 use Rattle.refutation_checker.specs.Hints.{HintsConflict}
@@ -49,7 +49,7 @@ step-within d declared width step size declares follows k x inside =
 pub line-within : (d : Derivation) (declared : List Bool) (width : ℕ) (line : Derived) → d.inputs < width → length declared ≡ width →
     Declares declared d.inputs d.clauses → MayFollow d line → IsWithin width (clause_of line)
 line-within d declared width (Cube cube) below size declares may =
-    All-map (λ l. l.var < width) denial cube (inputs-within d.inputs width cube below may.decides_inputs)
+    All-map (λ l. l.var < width) negation cube (inputs-within d.inputs width cube below may.decides_inputs)
 line-within d declared width (Step step) below size declares may = step-within d declared width step size declares may
 
 -- a line among those before, or the last
@@ -152,14 +152,14 @@ follows-among a step h = (onward, back) where
   onward f = record {
     variables = λ k d inside. (h.declares (get_or step.clause k d).var).0 (f.variables k d inside);
     apart = f.apart;
-    conflict = subst (λ (cs : List (List Lit)). HintsConflict cs (map denial step.clause) step.hints) h.numbered f.conflict;
+    conflict = subst (λ (cs : List (List Lit)). HintsConflict cs (map negation step.clause) step.hints) h.numbered f.conflict;
   }
 
   back : FollowsByHints (derivation_of a) step → FollowsAmong a.declared.items a.known.clauses step
   back f = record {
     variables = λ k d inside. (h.declares (get_or step.clause k d).var).1 (f.variables k d inside);
     apart = f.apart;
-    conflict = subst (λ (cs : List (List Lit)). HintsConflict cs (map denial step.clause) step.hints) (sym h.numbered) f.conflict;
+    conflict = subst (λ (cs : List (List Lit)). HintsConflict cs (map negation step.clause) step.hints) (sym h.numbered) f.conflict;
   }
 
 no_lines : (line : Derived) → Contains [] line → ⊥

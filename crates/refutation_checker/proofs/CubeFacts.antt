@@ -4,7 +4,7 @@ use Rattle.std.specs.Prelude.{All, remove}
 use Rattle.std.proofs.lemmas.List.Elements.{All-weaker}
 use Rattle.std.proofs.lemmas.List.Quantifiers.{all_pairs_remove}
 use Rattle.cnf_core.specs.declared.formula.Lit.{Lit}
-use Rattle.cnf_core.specs.Literal.{denial, IsApart}
+use Rattle.cnf_core.specs.Literal.{negation, IsApart}
 use Rattle.cnf_core.specs.Propagation.{Conflicts}
 use Rattle.refutation_checker.specs.Derivation.{IsInput}
 use Rattle.refutation_checker.specs.Acceptance.{LeavesOpen, IsLeastConflict}
@@ -28,12 +28,12 @@ apart-rest cube rest l e apart = apart-front rest (l ∷ []) (subst IsApart e ap
 -- the row's literal is open exactly where propagation leaves it open
 pub leaves_open : (clauses : List (List Lit)) (decided trail : List Lit) (l : Lit) → AreAllSet clauses decided trail → IsOpen trail l → LeavesOpen clauses decided l
 leaves_open clauses decided trail l all is_open =
-    ((λ sets. is_open.0 ((all l).1 sets)), (λ sets. is_open.1 ((all (denial l)).1 sets)))
+    ((λ sets. is_open.0 ((all l).1 sets)), (λ sets. is_open.1 ((all (negation l)).1 sets)))
 
 pub not_left_open : (clauses : List (List Lit)) (decided trail : List Lit) (l : Lit) (t : Truth) → AreAllSet clauses decided trail →
     StandsAs trail l t → (t ≡ Open → ⊥) → LeavesOpen clauses decided l → ⊥
 not_left_open clauses decided trail l True all says not_open leaves = leaves.0 ((all l).0 says.0)
-not_left_open clauses decided trail l False all says not_open leaves = leaves.1 ((all (denial l)).0 says.0)
+not_left_open clauses decided trail l False all says not_open leaves = leaves.1 ((all (negation l)).0 says.0)
 not_left_open clauses decided trail l Open all says not_open leaves = not_open refl
 
 remove_last : (rest : List Lit) (l : Lit) → remove (rest ++ l ∷ []) (length rest) ≡ rest

@@ -1,11 +1,11 @@
--- Propagation: a unit is in every closed set, a denied clause is a conflict, and where each clause says
+-- Propagation: a unit is in every closed set, a falsified clause is a conflict, and where each clause says
 -- nothing the trail is the least closed set.
 use Rattle.std.proofs.Common.{false, ◌||◌, List, [], ◌∷◌, ◌++◌, zero, suc, get_or, inl, inr, ap, ◌∙◌, subst, arith}
 use Rattle.std.specs.Prelude.{IsTrue, All, Any, Contains}
 use Rattle.std.proofs.lemmas.Bool.{or_cases, or_left, or_right, cases_Bool, both_ways}
 use Rattle.std.proofs.lemmas.List.Elements.{All-contains, All-push, Contains-append_left, Contains-get_or}
 use Rattle.cnf_core.specs.declared.formula.Lit.{Lit}
-use Rattle.cnf_core.specs.Literal.{denial, LitSet}
+use Rattle.cnf_core.specs.Literal.{negation, LitSet}
 use Rattle.cnf_core.specs.Propagation.{Leaves, IsClosed, Sets, Conflicts}
 use Rattle.cnf_core.proofs.Literals.{lit-cases, lit_eq, lit_eq-true, lit_eq-itself}
 use Rattle.refutation_checker.specs.Hints.{IsFalse, IsUnit}
@@ -37,7 +37,7 @@ pub sets-unit : (clauses : List (List Lit)) (decided trail clause : List Lit) (l
     AreSet clauses decided trail → Contains clauses clause → IsUnit trail clause l → Sets clauses decided l
 sets-unit clauses decided trail clause l are stands unit set closed = closed.closes clause l stands unit.stands leaves where
   leaves : Leaves set clause l
-  leaves k d inside differs = All-contains (Sets clauses decided) trail (denial (get_or clause k d)) are (unit.alone k d inside differs) set closed
+  leaves k d inside differs = All-contains (Sets clauses decided) trail (negation (get_or clause k d)) are (unit.alone k d inside differs) set closed
 
 pub grew-unit : (clauses : List (List Lit)) (old trail clause : List Lit) (l : Lit) →
     Grew clauses old trail → Contains clauses clause → IsUnit trail clause l → Grew clauses old (trail ++ l ∷ [])
@@ -52,9 +52,9 @@ pub are_set-decided : (clauses : List (List Lit)) (decided : List Lit) → AreSe
 are_set-decided clauses decided k d inside set closed = closed.decides k d inside
 
 -- a clause whose literals are false is a conflict
-pub conflicts-denied : (clauses : List (List Lit)) (decided trail : List Lit) → AreSet clauses decided trail → Any (All (IsFalse trail)) clauses → Conflicts clauses decided
-conflicts-denied clauses decided trail are (k, clause, inside, at, denied) =
-    (k, clause, inside, at, λ i d within. All-contains (Sets clauses decided) trail (denial (get_or clause i d)) are (denied i d within))
+pub conflicts-falsified : (clauses : List (List Lit)) (decided trail : List Lit) → AreSet clauses decided trail → Any (All (IsFalse trail)) clauses → Conflicts clauses decided
+conflicts-falsified clauses decided trail are (k, clause, inside, at, falsified) =
+    (k, clause, inside, at, λ i d within. All-contains (Sets clauses decided) trail (negation (get_or clause i d)) are (falsified i d within))
 
 -- where each clause says nothing, the trail is closed
 pub closed-fixed : (clauses : List (List Lit)) (decided trail : List Lit) → ((l : Lit) → Contains decided l → Contains trail l) →
@@ -68,18 +68,18 @@ closed-fixed clauses decided trail keeps fixed = record { decides = decides; clo
       let says : IsState trail clause Other = All-contains (λ c. IsState trail c Other) clauses clause fixed stands in
       elim (cases_Bool (set_of trail l)) [
         | inl here ↦ here
-        | inr not_here ↦ elim (cases_Bool (set_of trail (denial l))) [
+        | inr not_here ↦ elim (cases_Bool (set_of trail (negation l))) [
           | inl is_false ↦ absurd (says.0 (λ k d inside. elim (lit-cases (get_or clause k d) l) [
-            | inl same ↦ contains-set_of trail (denial (get_or clause k d)) (ap (λ (x : Lit). set_of trail (denial x)) same ∙ is_false)
-            | inr differs ↦ contains-set_of trail (denial (get_or clause k d)) (leaves k d inside differs)
+            | inl same ↦ contains-set_of trail (negation (get_or clause k d)) (ap (λ (x : Lit). set_of trail (negation x)) same ∙ is_false)
+            | inr differs ↦ contains-set_of trail (negation (get_or clause k d)) (leaves k d inside differs)
           ]))
           | inr not_false ↦ absurd (says.1 l (record {
             stands = in_clause;
             is_open = (
               (λ h. both_ways (set_of trail l) not_here (set_of-contains trail l h)),
-              (λ h. both_ways (set_of trail (denial l)) not_false (set_of-contains trail (denial l) h)),
+              (λ h. both_ways (set_of trail (negation l)) not_false (set_of-contains trail (negation l) h)),
             );
-            alone = λ k d inside differs. contains-set_of trail (denial (get_or clause k d)) (leaves k d inside differs);
+            alone = λ k d inside differs. contains-set_of trail (negation (get_or clause k d)) (leaves k d inside differs);
           }))
         ]
       ]
@@ -96,7 +96,7 @@ pub no_conflict-fixed : (clauses : List (List Lit)) (decided trail : List Lit) �
     All (λ clause. IsState trail clause Other) clauses → Conflicts clauses decided → ⊥
 no_conflict-fixed clauses decided trail keeps fixed (k, clause, inside, at, sets) =
     let says : IsState trail clause Other = subst (λ (c : List Lit). IsState trail c Other) at (fixed k clause inside) in
-    says.0 (λ i d within. contains-set_of trail (denial (get_or clause i d)) (sets i d within (set_of trail) (closed-fixed clauses decided trail keeps fixed)))
+    says.0 (λ i d within. contains-set_of trail (negation (get_or clause i d)) (sets i d within (set_of trail) (closed-fixed clauses decided trail keeps fixed)))
 
 pub grew-onward : (clauses : List (List Lit)) (old mid new : List Lit) → Grew clauses old mid → Grew clauses mid new → Grew clauses old new
 grew-onward clauses old mid new first then = record {

@@ -7,7 +7,7 @@ use Rattle.cnf_core.proofs.Literals.{lit-cases}
 use Rattle.refutation_checker.specs.Hints.{IsFalse, IsUnit, IsNumbered, HintsConflict}
 use Rattle.refutation_checker.specs.ClauseStates.{IsState, IsHintState}
 use Rattle.refutation_checker.specs.declared.clause_state.ClauseState.{ClauseState}
-use Rattle.refutation_checker.specs.declared.clause_state.ClauseState.TheVariants.{Denied, Unit as UnitOf, Other}
+use Rattle.refutation_checker.specs.declared.clause_state.ClauseState.TheVariants.{Falsified, Unit as UnitOf, Other}
 
 same_numbered : (clauses : List (List Lit)) (number : ℕ) (a b : List Lit) → IsNumbered clauses number a → IsNumbered clauses number b → a ≡ b
 same_numbered clauses number a b h k = some_same a b (sym h.1 ∙ k.1) where
@@ -27,21 +27,21 @@ hint-onward clauses trail hint hints l (clause, number, unit) rest = (clause, nu
 
 pub hint-back : (clauses : List (List Lit)) (trail : List Lit) (hint : ℕ) (hints : List ℕ) (l : Lit) →
     IsHintState clauses trail hint (UnitOf l) → HintsConflict clauses trail (hint ∷ hints) → HintsConflict clauses (trail ++ l ∷ []) hints
-hint-back clauses trail hint hints l (clause, number, unit) (other, other_number, inl denied) =
-    absurd (unit.is_open.1 (All-contains (IsFalse trail) clause l (subst (All (IsFalse trail)) (same_numbered clauses hint other clause other_number number) denied) unit.stands))
+hint-back clauses trail hint hints l (clause, number, unit) (other, other_number, inl falsified) =
+    absurd (unit.is_open.1 (All-contains (IsFalse trail) clause l (subst (All (IsFalse trail)) (same_numbered clauses hint other clause other_number number) falsified) unit.stands))
 hint-back clauses trail hint hints l (clause, number, unit) (other, other_number, inr (k, other_unit, rest)) =
     let there = subst (λ (c : List Lit). IsUnit trail c k) (same_numbered clauses hint other clause other_number number) other_unit in
     subst (λ (x : Lit). HintsConflict clauses (trail ++ x ∷ []) hints) (one_unit trail clause k l there unit) rest
 
 pub hint-other : (clauses : List (List Lit)) (trail : List Lit) (hint : ℕ) (hints : List ℕ) →
     IsHintState clauses trail hint Other → HintsConflict clauses trail (hint ∷ hints) → ⊥
-hint-other clauses trail hint hints says (clause, number, inl denied) = (says clause number).0 denied
+hint-other clauses trail hint hints says (clause, number, inl falsified) = (says clause number).0 falsified
 hint-other clauses trail hint hints says (clause, number, inr (l, unit, rest)) = (says clause number).1 l unit
 
 -- a hint whose clause is there
 pub hint-there : (clauses : List (List Lit)) (trail : List Lit) (number : ℕ) (clause : List Lit) (state : ClauseState) →
     IsNumbered clauses number clause → IsState trail clause state → IsHintState clauses trail number state
-hint-there clauses trail number clause Denied there says = (clause, there, says)
+hint-there clauses trail number clause Falsified there says = (clause, there, says)
 hint-there clauses trail number clause (UnitOf l) there says = (clause, there, says)
 hint-there clauses trail number clause Other there says =
     λ other other_there. subst (λ (c : List Lit). IsState trail c Other) (same_numbered clauses number clause other there other_there) says

@@ -7,7 +7,7 @@ use Rattle.std.proofs.lemmas.Bool.{cases_eq, cases_lt}
 use Rattle.std.proofs.lemmas.List.Sums.{sum_by-set, count_by-le-length, count_by_more_no}
 use Rattle.std.proofs.lemmas.List.Elements.{Contains-push, Contains-push_cases, Contains-append_left, Contains-get_or}
 use Rattle.cnf_core.specs.declared.formula.Lit.{Lit}
-use Rattle.cnf_core.specs.Literal.{denial}
+use Rattle.cnf_core.specs.Literal.{negation}
 use Rattle.cnf_core.proofs.Literals.{lit, lit-same}
 use Rattle.refutation_checker.specs.Hints.{IsOpen}
 use Rattle.refutation_checker.specs.Assigned.{Agrees, IsWithin, StandsAs, truth_of, is_set}
@@ -111,13 +111,13 @@ not_same false e = absurd (cc)
 pub stands_false : (values : List Truth) (trail : List Lit) (l : Lit) → Agrees values trail →
     get_or values l.var Open ≡ truth_of (not l.positive) → StandsAs trail l False
 stands_false values trail l h other =
-    (h.on_trail (denial l) other, λ here. not_same l.positive (sym (h.holds_trail l here) ∙ other))
+    (h.on_trail (negation l) other, λ here. not_same l.positive (sym (h.holds_trail l here) ∙ other))
 
 -- a literal whose variable has its sign in the row is true
 pub stands_true : (values : List Truth) (trail : List Lit) (l : Lit) → Agrees values trail →
     get_or values l.var Open ≡ truth_of l.positive → StandsAs trail l True
 stands_true values trail l h here =
-    (h.on_trail l here, λ other. not_same l.positive (sym here ∙ h.holds_trail (denial l) other))
+    (h.on_trail l here, λ other. not_same l.positive (sym here ∙ h.holds_trail (negation l) other))
 
 -- each variable that is set has its literal on the trail
 abbrev pub OnTrail : List Truth → List Lit → Type 0

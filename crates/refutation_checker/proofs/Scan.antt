@@ -4,14 +4,14 @@ use Rattle.std.specs.Prelude.{All, Contains}
 use Rattle.std.proofs.lemmas.Bool.{cases_Bool, both_ways}
 use Rattle.std.proofs.lemmas.List.Elements.{All-push, All-cons, All-append, All-drop, All-contains, All-contains_itself, Contains-push, Contains-append_left, Contains-get_or}
 use Rattle.cnf_core.specs.declared.formula.Lit.{Lit}
-use Rattle.cnf_core.specs.Literal.{denial}
+use Rattle.cnf_core.specs.Literal.{negation}
 use Rattle.cnf_core.proofs.Literals.{lit-cases}
 use Rattle.refutation_checker.specs.Hints.{IsFalse, IsOpen, IsUnit}
 use Rattle.refutation_checker.specs.Assigned.{StandsAs}
 use Rattle.refutation_checker.specs.ClauseStates.{IsState, SaysWith, SomeSay}
 use Rattle.refutation_checker.specs.declared.assignment.Truth.TheVariants.{True}
 use Rattle.refutation_checker.specs.declared.clause_state.ClauseState.{ClauseState}
-use Rattle.refutation_checker.specs.declared.clause_state.ClauseState.TheVariants.{Denied, Unit as UnitOf, Other}
+use Rattle.refutation_checker.specs.declared.clause_state.ClauseState.TheVariants.{Falsified, Unit as UnitOf, Other}
 use Rattle.refutation_checker.proofs.Fixpoint.{set_of, set_of-contains, contains-set_of}
 
 -- a literal that is not false is the unit, if there is one
@@ -32,9 +32,9 @@ no_unit-open trail clause x y x_stands y_stands x_open y_open differs l unit =
 
 -- literals that say nothing, among others
 pub says_nothing-within : (trail part clause : List Lit) → ((x : Lit) → Contains part x → Contains clause x) → IsState trail part Other → IsState trail clause Other
-says_nothing-within trail part clause within says = (not_denied, no_unit) where
-  not_denied : All (IsFalse trail) clause → ⊥
-  not_denied denied = says.0 (λ k d inside. All-contains (IsFalse trail) clause (get_or part k d) denied (within (get_or part k d) (Contains-get_or part k d inside)))
+says_nothing-within trail part clause within says = (not_falsified, no_unit) where
+  not_falsified : All (IsFalse trail) clause → ⊥
+  not_falsified falsified = says.0 (λ k d inside. All-contains (IsFalse trail) clause (get_or part k d) falsified (within (get_or part k d) (Contains-get_or part k d inside)))
 
   alone : (u : Lit) → IsUnit trail clause u → All (λ k. k ≢ u → IsFalse trail k) part
   alone u unit k d inside = All-contains (λ x. x ≢ u → IsFalse trail x) clause (get_or part k d) unit.alone (within (get_or part k d) (Contains-get_or part k d inside))
@@ -51,7 +51,7 @@ says_nothing-more trail lits more = says_nothing-within trail lits (lits ++ more
 
 -- a false literal changes nothing
 pub says-false : (trail : List Lit) (x : Lit) (state : ClauseState) → IsFalse trail x → SaysWith trail state (x ∷ []) state
-says-false trail x Denied is_false lits h = All-push (IsFalse trail) lits x h is_false
+says-false trail x Falsified is_false lits h = All-push (IsFalse trail) lits x h is_false
 says-false trail x (UnitOf l) is_false lits h = record {
   stands = Contains-append_left lits (x ∷ []) l h.stands;
   is_open = h.is_open;
@@ -59,7 +59,7 @@ says-false trail x (UnitOf l) is_false lits h = record {
 }
 says-false trail x Other is_false lits h = says_nothing-more trail lits (x ∷ []) h
 
-pub says-first : (trail : List Lit) (x : Lit) → IsOpen trail x → SaysWith trail Denied (x ∷ []) (UnitOf x)
+pub says-first : (trail : List Lit) (x : Lit) → IsOpen trail x → SaysWith trail Falsified (x ∷ []) (UnitOf x)
 says-first trail x o lits h = record {
   stands = Contains-push lits x;
   is_open = o;
@@ -76,23 +76,23 @@ says-again trail x lits h = record {
 -- whatever stands before a true literal
 pub says-true : (trail : List Lit) (x : Lit) (state : ClauseState) → StandsAs trail x True → SaysWith trail state (x ∷ []) Other
 says-true trail x state is_true lits h = (
-  (λ denied. is_true.1 (All-contains (IsFalse trail) (lits ++ x ∷ []) x denied (Contains-push lits x))),
+  (λ falsified. is_true.1 (All-contains (IsFalse trail) (lits ++ x ∷ []) x falsified (Contains-push lits x))),
   no_unit-true trail (lits ++ x ∷ []) x (Contains-push lits x) is_true,
 )
 
 -- another open literal
 pub says-two : (trail : List Lit) (k x : Lit) → IsOpen trail x → k ≢ x → SaysWith trail (UnitOf k) (x ∷ []) Other
 says-two trail k x o differs lits h = (
-  (λ denied. o.1 (All-contains (IsFalse trail) (lits ++ x ∷ []) x denied (Contains-push lits x))),
+  (λ falsified. o.1 (All-contains (IsFalse trail) (lits ++ x ∷ []) x falsified (Contains-push lits x))),
   no_unit-open trail (lits ++ x ∷ []) k x (Contains-append_left lits (x ∷ []) k h.stands) (Contains-push lits x) h.is_open o differs,
 )
 
 -- no literals are all false
-pub says-none : (trail : List Lit) (state : ClauseState) → state ≡ Denied → IsState trail [] state
+pub says-none : (trail : List Lit) (state : ClauseState) → state ≡ Falsified → IsState trail [] state
 says-none trail state e = rw e (λ k d inside. absurd (omega arith))
 
 -- all literals of the clause
-pub says-whole : (trail clause : List Lit) (before after : ClauseState) → before ≡ Denied → SaysWith trail before clause after → IsState trail clause after
+pub says-whole : (trail clause : List Lit) (before after : ClauseState) → before ≡ Falsified → SaysWith trail before clause after → IsState trail clause after
 says-whole trail clause before after e says = says [] (says-none trail before e)
 
 -- literals of the clause, and then those from a place on
@@ -115,7 +115,7 @@ nothing l (k, inside, at) = absurd (omega arith)
 pub says-one : (l : Lit) (rest : List Lit) → All (λ k. k ≡ l) rest → IsUnit [] (l ∷ rest) l
 says-one l rest same = record {
   stands = (0, omega arith, refl);
-  is_open = (nothing l, nothing (denial l));
+  is_open = (nothing l, nothing (negation l));
   alone = All-cons (λ k. k ≢ l → IsFalse [] k) l rest (λ differs. absurd (differs refl)) (λ k d inside differs. absurd (differs (same k d inside)));
 }
 
@@ -128,11 +128,11 @@ all_one l rest unit h k d inside = is_unit (get_or rest k d) (later (get_or rest
   is_unit : (x : Lit) → Contains (l ∷ rest) x → x ≡ unit
   is_unit x stands = elim (lit-cases x unit) [
     | inl same ↦ same
-    | inr differs ↦ absurd (nothing (denial x) (All-contains (λ k. k ≢ unit → IsFalse [] k) (l ∷ rest) x h.alone stands differs))
+    | inr differs ↦ absurd (nothing (negation x) (All-contains (λ k. k ≢ unit → IsFalse [] k) (l ∷ rest) x h.alone stands differs))
   ]
 
 pub waits-two : (l : Lit) (rest : List Lit) → (All (λ k. k ≡ l) rest → ⊥) → IsState [] (l ∷ rest) Other
 waits-two l rest differ = (
-  (λ denied. nothing (denial l) (All-contains (IsFalse []) (l ∷ rest) l denied (0, omega arith, refl))),
+  (λ falsified. nothing (negation l) (All-contains (IsFalse []) (l ∷ rest) l falsified (0, omega arith, refl))),
   (λ unit h. differ (all_one l rest unit h)),
 )

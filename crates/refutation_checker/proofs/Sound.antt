@@ -9,9 +9,9 @@ use Rattle.cnf_core.specs.declared.formula.Lit.{Lit}
 use Rattle.cnf_core.specs.declared.derivation.Step.{Step as StepLine}
 use Rattle.cnf_core.specs.declared.derivation.Derived.{Derived}
 use Rattle.cnf_core.specs.declared.derivation.Derived.TheVariants.{Cube, Step}
-use Rattle.cnf_core.specs.Literal.{denial, LitSet}
+use Rattle.cnf_core.specs.Literal.{negation, LitSet}
 use Rattle.cnf_core.specs.Truth.{IsUnsatisfiable}
-use Rattle.cnf_core.proofs.Literals.{denial-denial}
+use Rattle.cnf_core.proofs.Literals.{negation_negation}
 use Rattle.cnf_core.proofs.Soundness.{IsComplete, Meets, not_both, meets-leaves, no_conflict-meets, true_literals, true_literals-complete, meets-all, meets-cases}
 use Rattle.refutation_checker.specs.Derivation.{Derivation, clause_of, known, before}
 use Rattle.refutation_checker.specs.Hints.{IsFalse, IsNumbered, HintsConflict}
@@ -28,41 +28,41 @@ numbered-contains clauses number clause there =
 no_conflict-hints : (set : LitSet) (clauses : List (List Lit)) (assigned : List Lit) (hints : List ℕ) → IsComplete set → All (Meets set) clauses →
     HasAll set assigned → HintsConflict clauses assigned hints → ⊥
 no_conflict-hints set clauses assigned [] complete meets has conflict = conflict
-no_conflict-hints set clauses assigned (hint ∷ hints) complete meets has (clause, there, inl denied) =
+no_conflict-hints set clauses assigned (hint ∷ hints) complete meets has (clause, there, inl falsified) =
     none (All-contains (Meets set) clauses clause meets (numbered-contains clauses hint clause there)) where
       none : Meets set clause → ⊥
       none (i, x, inside, at, holds) =
-          not_both set x complete holds (All-contains (λ l. IsTrue (set l)) assigned (denial x) has (All-contains (IsFalse assigned) clause x denied (i, inside, at)))
+          not_both set x complete holds (All-contains (λ l. IsTrue (set l)) assigned (negation x) has (All-contains (IsFalse assigned) clause x falsified (i, inside, at)))
 no_conflict-hints set clauses assigned (hint ∷ hints) complete meets has (clause, there, inr (l, unit, rest)) =
     no_conflict-hints set clauses (assigned ++ l ∷ []) hints complete meets (All-push (λ k. IsTrue (set k)) assigned l has here) rest where
       here : IsTrue (set l)
       here = meets-leaves set clause l complete (All-contains (Meets set) clauses clause meets (numbered-contains clauses hint clause there))
-          (λ k d inside differs. All-contains (λ x. IsTrue (set x)) assigned (denial (get_or clause k d)) has (unit.alone k d inside differs))
+          (λ k d inside differs. All-contains (λ x. IsTrue (set x)) assigned (negation (get_or clause k d)) has (unit.alone k d inside differs))
 
--- the denials of literals outside the set are in it
-denials-in : (set : LitSet) (lits : List Lit) → IsComplete set → All (λ l. set l ≡ false) lits → HasAll set (map denial lits)
-denials-in set lits complete none = All-map (λ l. IsTrue (set l)) denial lits (λ k d inside. complete (get_or lits k d) ∙ not_from_false (set (get_or lits k d)) (none k d inside))
+-- the negations of literals outside the set are in it
+negations-in : (set : LitSet) (lits : List Lit) → IsComplete set → All (λ l. set l ≡ false) lits → HasAll set (map negation lits)
+negations-in set lits complete none = All-map (λ l. IsTrue (set l)) negation lits (λ k d inside. complete (get_or lits k d) ∙ not_from_false (set (get_or lits k d)) (none k d inside))
 
 -- a line that may follow is met by each set that meets the clauses before it
 meets-step : (set : LitSet) (d : Derivation) (step : StepLine) → IsComplete set → All (Meets set) (known d) → FollowsByHints d step → Meets set step.clause
 meets-step set d step complete meets follows = elim (meets-cases set step.clause) [
   | inl here ↦ here
-  | inr none ↦ absurd (no_conflict-hints set (known d) (map denial step.clause) step.hints complete meets (denials-in set step.clause complete none) follows.conflict)
+  | inr none ↦ absurd (no_conflict-hints set (known d) (map negation step.clause) step.hints complete meets (negations-in set step.clause complete none) follows.conflict)
 ]
 
-meets-cube : (set : LitSet) (d : Derivation) (cube : List Lit) → IsComplete set → All (Meets set) (known d) → IsLeastConflict d.inputs (known d) cube → Meets set (map denial cube)
-meets-cube set d cube complete meets least = elim (meets-cases set (map denial cube)) [
+meets-cube : (set : LitSet) (d : Derivation) (cube : List Lit) → IsComplete set → All (Meets set) (known d) → IsLeastConflict d.inputs (known d) cube → Meets set (map negation cube)
+meets-cube set d cube complete meets least = elim (meets-cases set (map negation cube)) [
   | inl here ↦ here
   | inr none ↦ absurd (no_conflict-meets set (known d) cube complete meets (inside none) least.conflict)
 ] where
-  inside : All (λ l. set l ≡ false) (map denial cube) → HasAll set cube
+  inside : All (λ l. set l ≡ false) (map negation cube) → HasAll set cube
   inside none k x within =
-      let here = denials-in set (map denial cube) complete none in
-      let size = length-map cube denial in
-      let size2 = length-map (map denial cube) denial in
+      let here = negations-in set (map negation cube) complete none in
+      let size = length-map cube negation in
+      let size2 = length-map (map negation cube) negation in
       let there = here k x (omega arith) in
       subst (λ (l : Lit). IsTrue (set l))
-      (get_or-map denial (map denial cube) k x x (omega arith) ∙ ap denial (get_or-map denial cube k x x within) ∙ denial-denial (get_or cube k x)) there
+      (get_or-map negation (map negation cube) k x x (omega arith) ∙ ap negation (get_or-map negation cube k x x within) ∙ negation_negation (get_or cube k x)) there
 
 meets-line : (set : LitSet) (d : Derivation) (line : Derived) → IsComplete set → All (Meets set) (known d) → MayFollow d line → Meets set (clause_of line)
 meets-line set d (Cube cube) complete meets may = meets-cube set d cube complete meets may

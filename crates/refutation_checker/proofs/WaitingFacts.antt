@@ -6,8 +6,8 @@ use Rattle.std.proofs.lemmas.Option.{get_or_from_slice_get, slice_get_within}
 use Rattle.std.proofs.lemmas.List.{drop-append-le, drop_all, append-nil}
 use Rattle.std.proofs.lemmas.List.Elements.{Contains-push, Contains-push_cases, Contains-append_left, Contains-get_or, All-contains}
 use Rattle.cnf_core.specs.declared.formula.Lit.{Lit}
-use Rattle.cnf_core.specs.Literal.{denial}
-use Rattle.cnf_core.proofs.Literals.{denial-denial, denial-not_itself}
+use Rattle.cnf_core.specs.Literal.{negation}
+use Rattle.cnf_core.proofs.Literals.{negation_negation, negation-not_itself}
 use Rattle.refutation_checker.specs.Hints.{IsFalse, IsUnit}
 use Rattle.refutation_checker.specs.ClauseStates.{IsState}
 use Rattle.refutation_checker.specs.Waiting.{IsAhead, Waits, Settles}
@@ -22,22 +22,22 @@ none x (k, inside, at) = absurd (omega arith)
 some_same : {X : Type 0} (a b : X) → Some a ≡ Some b → a ≡ b
 some_same a b e = cc
 
--- a literal that is set leaves a clause as it was, unless the clause has its denial
-settled-push : (trail clause : List Lit) (l : Lit) → IsState trail clause Other → (Contains clause (denial l) → ⊥) → IsState (trail ++ l ∷ []) clause Other
-settled-push trail clause l says apart = (not_denied, no_unit) where
+-- a literal that is set leaves a clause as it was, unless the clause has its negation
+settled-push : (trail clause : List Lit) (l : Lit) → IsState trail clause Other → (Contains clause (negation l) → ⊥) → IsState (trail ++ l ∷ []) clause Other
+settled-push trail clause l says apart = (not_falsified, no_unit) where
   back : (x : Lit) → Contains clause x → IsFalse (trail ++ l ∷ []) x → IsFalse trail x
-  back x stands is_false = elim (Contains-push_cases trail l (denial x) is_false) [
+  back x stands is_false = elim (Contains-push_cases trail l (negation x) is_false) [
     | inl before ↦ before
-    | inr same ↦ absurd (apart (subst (Contains clause) (sym (ap denial same ∙ denial-denial x)) stands))
+    | inr same ↦ absurd (apart (subst (Contains clause) (sym (ap negation same ∙ negation_negation x)) stands))
   ]
 
-  not_denied : All (IsFalse (trail ++ l ∷ [])) clause → ⊥
-  not_denied denied = says.0 (λ k d inside. back (get_or clause k d) (Contains-get_or clause k d inside) (denied k d inside))
+  not_falsified : All (IsFalse (trail ++ l ∷ [])) clause → ⊥
+  not_falsified falsified = says.0 (λ k d inside. back (get_or clause k d) (Contains-get_or clause k d inside) (falsified k d inside))
 
   no_unit : (u : Lit) → IsUnit (trail ++ l ∷ []) clause u → ⊥
   no_unit u unit = says.1 u (record {
     stands = unit.stands;
-    is_open = ((λ h. unit.is_open.0 (Contains-append_left trail (l ∷ []) u h)), (λ h. unit.is_open.1 (Contains-append_left trail (l ∷ []) (denial u) h)));
+    is_open = ((λ h. unit.is_open.0 (Contains-append_left trail (l ∷ []) u h)), (λ h. unit.is_open.1 (Contains-append_left trail (l ∷ []) (negation u) h)));
     alone = λ k d inside differs. back (get_or clause k d) (Contains-get_or clause k d inside) (unit.alone k d inside differs);
   })
 
@@ -45,20 +45,20 @@ ahead-push : (trail : List Lit) (head : ℕ) (clause : List Lit) (l : Lit) → h
 ahead-push trail head clause l within (k, stands, ahead) = (
   k,
   stands,
-  subst (λ (xs : List Lit). Contains xs (denial k)) (sym (drop-append-le head trail (l ∷ []) within))
-      (Contains-append_left (drop head trail) (l ∷ []) (denial k) ahead),
+  subst (λ (xs : List Lit). Contains xs (negation k)) (sym (drop-append-le head trail (l ∷ []) within))
+      (Contains-append_left (drop head trail) (l ∷ []) (negation k) ahead),
 )
 
 pub waits-push : (trail : List Lit) (head : ℕ) (clause : List Lit) (l : Lit) → head ≤ length trail → Waits trail head clause → Waits (trail ++ l ∷ []) head clause
 waits-push trail head clause l within (inr ahead) = inr (ahead-push trail head clause l within ahead)
-waits-push trail head clause l within (inl says) = elim (cases_Bool (set_of clause (denial l))) [
+waits-push trail head clause l within (inl says) = elim (cases_Bool (set_of clause (negation l))) [
   | inl has ↦ inr (
-    denial l,
-    contains-set_of clause (denial l) has,
-    subst (Contains (drop head (trail ++ l ∷ []))) (sym (denial-denial l))
+    negation l,
+    contains-set_of clause (negation l) has,
+    subst (Contains (drop head (trail ++ l ∷ []))) (sym (negation_negation l))
         (subst (λ (xs : List Lit). Contains xs l) (sym (drop-append-le head trail (l ∷ []) within)) (Contains-push (drop head trail) l)),
   )
-  | inr has_not ↦ inl (settled-push trail clause l says (λ h. both_ways (set_of clause (denial l)) has_not (set_of-contains clause (denial l) h)))
+  | inr has_not ↦ inl (settled-push trail clause l says (λ h. both_ways (set_of clause (negation l)) has_not (set_of-contains clause (negation l) h)))
 ]
 
 pub waits-append : (trail : List Lit) (head : ℕ) (clause more : List Lit) → head ≤ length trail → Waits trail head clause → Waits (trail ++ more) head clause
@@ -73,25 +73,25 @@ waits-start trail clause says = waits-append [] 0 clause trail (omega arith) (in
 
 -- the head moves past a literal
 pub waits-next : (trail : List Lit) (head : ℕ) (clause : List Lit) (p : Lit) → slice_get trail head ≡ Some p → Waits trail head clause →
-    Waits trail (head + 1) clause ⊎ Contains clause (denial p)
+    Waits trail (head + 1) clause ⊎ Contains clause (negation p)
 waits-next trail head clause p at (inl says) = inl (inl says)
 waits-next trail head clause p at (inr (k, stands, ahead)) = elim (first (drop head trail) (drop (head + 1) trail) here ahead) [
-  | inl is ↦ inr (subst (Contains clause) (sym (denial-denial k) ∙ ap denial is) stands)
+  | inl is ↦ inr (subst (Contains clause) (sym (negation_negation k) ∙ ap negation is) stands)
   | inr later ↦ inl (inr (k, stands, later))
 ] where
   here : drop head trail ≡ p ∷ drop (head + 1) trail
   here = rw add-one (drop-cons trail head p (slice_get_within trail head p at) ∙ ap (λ (x : Lit). x ∷ drop (suc head) trail) (get_or_from_slice_get trail head p p at))
 
-  first : (xs ys : List Lit) → xs ≡ p ∷ ys → Contains xs (denial k) → (denial k ≡ p) ⊎ Contains ys (denial k)
-  first xs ys e h = split ys (subst (λ (zs : List Lit). Contains zs (denial k)) e h) where
-    split : (ys : List Lit) → Contains (p ∷ ys) (denial k) → (denial k ≡ p) ⊎ Contains ys (denial k)
+  first : (xs ys : List Lit) → xs ≡ p ∷ ys → Contains xs (negation k) → (negation k ≡ p) ⊎ Contains ys (negation k)
+  first xs ys e h = split ys (subst (λ (zs : List Lit). Contains zs (negation k)) e h) where
+    split : (ys : List Lit) → Contains (p ∷ ys) (negation k) → (negation k ≡ p) ⊎ Contains ys (negation k)
     split ys (zero, inside, is) = inl (sym is)
     split ys (suc i, inside, is) = inr (i, omega arith, is)
 
 -- past the end of the trail nothing waits
 pub waits-end : (trail : List Lit) (head : ℕ) (clause : List Lit) → length trail ≤ head → Waits trail head clause → IsState trail clause Other
 waits-end trail head clause past (inl says) = says
-waits-end trail head clause past (inr (k, stands, ahead)) = absurd (none (denial k) (subst (λ (xs : List Lit). Contains xs (denial k)) (drop_all head trail past) ahead))
+waits-end trail head clause past (inr (k, stands, ahead)) = absurd (none (negation k) (subst (λ (xs : List Lit). Contains xs (negation k)) (drop_all head trail past) ahead))
 
 pub settles-absent : (clauses : List (List Lit)) (front : List ℕ) (place : ℕ) (old new : List Lit) → length clauses ≤ place →
     Settles clauses front old new → Settles clauses (front ++ place ∷ []) old new
@@ -112,15 +112,15 @@ settles-other clauses front place here old new at_place says h head n clause wit
 
 -- a clause whose unit is set says nothing more
 settled-unit : (trail clause : List Lit) (l : Lit) → IsUnit trail clause l → IsState (trail ++ l ∷ []) clause Other
-settled-unit trail clause l unit = (not_denied, no_unit-true (trail ++ l ∷ []) clause l unit.stands (here, not_false)) where
+settled-unit trail clause l unit = (not_falsified, no_unit-true (trail ++ l ∷ []) clause l unit.stands (here, not_false)) where
   here : Contains (trail ++ l ∷ []) l
   here = Contains-push trail l
 
-  not_false : Contains (trail ++ l ∷ []) (denial l) → ⊥
-  not_false h = elim (Contains-push_cases trail l (denial l) h) [ inl before ↦ unit.is_open.1 before | inr same ↦ denial-not_itself l same ]
+  not_false : Contains (trail ++ l ∷ []) (negation l) → ⊥
+  not_false h = elim (Contains-push_cases trail l (negation l) h) [ inl before ↦ unit.is_open.1 before | inr same ↦ negation-not_itself l same ]
 
-  not_denied : All (IsFalse (trail ++ l ∷ [])) clause → ⊥
-  not_denied denied = not_false (All-contains (IsFalse (trail ++ l ∷ [])) clause l denied unit.stands)
+  not_falsified : All (IsFalse (trail ++ l ∷ [])) clause → ⊥
+  not_falsified falsified = not_false (All-contains (IsFalse (trail ++ l ∷ [])) clause l falsified unit.stands)
 
 pub settles-unit : (clauses : List (List Lit)) (front : List ℕ) (place : ℕ) (here old trail : List Lit) (l : Lit) → slice_get clauses place ≡ Some here →
     IsUnit trail here l → length old ≤ length trail → Settles clauses front old trail → Settles clauses (front ++ place ∷ []) old (trail ++ l ∷ [])

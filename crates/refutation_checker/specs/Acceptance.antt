@@ -4,7 +4,7 @@ use Rattle.cnf_core.specs.declared.formula.Lit.{Lit}
 use Rattle.cnf_core.specs.declared.derivation.Step.{Step as StepLine}
 use Rattle.cnf_core.specs.declared.derivation.Derived.{Derived}
 use Rattle.cnf_core.specs.declared.derivation.Derived.TheVariants.{Cube, Step}
-use Rattle.cnf_core.specs.Literal.{denial, IsApart}
+use Rattle.cnf_core.specs.Literal.{negation, IsApart}
 use Rattle.cnf_core.specs.Propagation.{Sets, Conflicts}
 use Rattle.refutation_checker.specs.Derivation.{Derivation, known, before, IsInput, IsVariable}
 use Rattle.refutation_checker.specs.Hints.{HintsConflict}
@@ -13,11 +13,11 @@ use Rattle.refutation_checker.specs.Hints.{HintsConflict}
 pub record FollowsByHints (d : Derivation) (step : StepLine) : Type 0 where
   pub variables : All (λ l. IsVariable d.inputs d.clauses l.var) step.clause
   pub apart : IsApart step.clause
-  pub conflict : HintsConflict (known d) (map denial step.clause) step.hints
+  pub conflict : HintsConflict (known d) (map negation step.clause) step.hints
 
--- propagation sets neither the literal nor its denial
+-- propagation sets neither the literal nor its negation
 abbrev pub LeavesOpen : List (List Lit) → List Lit → Lit → Type 0
-LeavesOpen clauses decided l = ¬ Sets clauses decided l × ¬ Sets clauses decided (denial l)
+LeavesOpen clauses decided l = ¬ Sets clauses decided l × ¬ Sets clauses decided (negation l)
 
 -- without any one of the literals propagation does not conflict
 abbrev pub IsEachNeeded : List (List Lit) → List Lit → Type 0

@@ -1,7 +1,7 @@
 -- What an assignment row stands for: the literals that were set, in order, over a number of variables.
 use Rattle.std.specs.Prelude.{◌≡◌, ℕ, ◌<◌, All, Bool, true, false, List, length, Contains, count_by, slice_index_or}
 use Rattle.cnf_core.specs.declared.formula.Lit.{Lit}
-use Rattle.cnf_core.specs.Literal.{denial}
+use Rattle.cnf_core.specs.Literal.{negation}
 use Rattle.refutation_checker.specs.Hints.{IsOpen}
 use Rattle.refutation_checker.specs.declared.assignment.Truth.{Truth}
 use Rattle.refutation_checker.specs.declared.assignment.Truth.TheVariants.{True, False, Open}
@@ -17,8 +17,8 @@ IsWithin width lits = All (λ l. l.var < width) lits
 
 -- how a literal stands after these were set
 abbrev pub StandsAs : List Lit → Lit → Truth → Type 0
-StandsAs trail l True = Contains trail l × ¬ Contains trail (denial l)
-StandsAs trail l False = Contains trail (denial l) × ¬ Contains trail l
+StandsAs trail l True = Contains trail l × ¬ Contains trail (negation l)
+StandsAs trail l False = Contains trail (negation l) × ¬ Contains trail l
 StandsAs trail l Open = IsOpen trail l
 
 -- the truth of a variable whose literal of this sign is true

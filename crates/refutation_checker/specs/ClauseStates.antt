@@ -3,16 +3,16 @@ use Rattle.std.specs.Prelude.{ℕ, ◌++◌, List, All, Contains}
 use Rattle.cnf_core.specs.declared.formula.Lit.{Lit}
 use Rattle.refutation_checker.specs.Hints.{IsFalse, IsUnit, IsNumbered}
 use Rattle.refutation_checker.specs.declared.clause_state.ClauseState.{ClauseState}
-use Rattle.refutation_checker.specs.declared.clause_state.ClauseState.TheVariants.{Denied, Unit as UnitOf, Other}
+use Rattle.refutation_checker.specs.declared.clause_state.ClauseState.TheVariants.{Falsified, Unit as UnitOf, Other}
 
 abbrev pub IsState : List Lit → List Lit → ClauseState → Type 0
-IsState trail clause Denied = All (IsFalse trail) clause
+IsState trail clause Falsified = All (IsFalse trail) clause
 IsState trail clause (UnitOf l) = IsUnit trail clause l
 IsState trail clause Other = ¬ All (IsFalse trail) clause × ((l : Lit) → ¬ IsUnit trail clause l)
 
 -- what the clause of a number says; `Other` also where there is none
 abbrev pub IsHintState : List (List Lit) → List Lit → ℕ → ClauseState → Type 0
-IsHintState clauses trail number Denied = (clause : List Lit) × IsNumbered clauses number clause × All (IsFalse trail) clause
+IsHintState clauses trail number Falsified = (clause : List Lit) × IsNumbered clauses number clause × All (IsFalse trail) clause
 IsHintState clauses trail number (UnitOf l) = (clause : List Lit) × IsNumbered clauses number clause × IsUnit trail clause l
 IsHintState clauses trail number Other = (clause : List Lit) → IsNumbered clauses number clause → IsState trail clause Other
 

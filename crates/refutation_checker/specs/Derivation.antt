@@ -3,7 +3,7 @@ use Rattle.std.specs.Prelude.{◌≡◌, ℕ, ◌<◌, ◌≤◌, ◌⊎◌, ◌
 use Rattle.cnf_core.specs.declared.formula.Lit.{Lit}
 use Rattle.cnf_core.specs.declared.derivation.Derived.{Derived}
 use Rattle.cnf_core.specs.declared.derivation.Derived.TheVariants.{Cube, Step}
-use Rattle.cnf_core.specs.Literal.{denial}
+use Rattle.cnf_core.specs.Literal.{negation}
 
 -- variables 1 to `inputs` are the inputs
 pub record Derivation : Type 0 where
@@ -11,9 +11,9 @@ pub record Derivation : Type 0 where
   pub clauses : List (List Lit)
   pub derived : List Derived
 
--- the clause that a line counts as: a step's own, and of a cube that of its denied literals
+-- the clause that a line counts as: a step's own, and of a cube that of the negations of its literals
 abbrev pub clause_of : Derived → List Lit
-clause_of (Cube lits) = map denial lits
+clause_of (Cube lits) = map negation lits
 clause_of (Step step) = step.clause
 
 -- the clauses in the order of their numbers, which are from 1

@@ -1,13 +1,13 @@
 -- Reverse unit propagation along hints, as in LRAT (Cruz-Filipe, Heule, Hunt, Kaufmann and Schneider-Kamp, 2017).
 use Rattle.std.specs.Prelude.{◌≡◌, ◌≢◌, ℕ, ◌-◌, ◌<◌, ◌⊎◌, ◌++◌, ◌∷◌, [], List, slice_get, Some, All, Contains}
 use Rattle.cnf_core.specs.declared.formula.Lit.{Lit}
-use Rattle.cnf_core.specs.Literal.{denial}
+use Rattle.cnf_core.specs.Literal.{negation}
 
 abbrev pub IsFalse : List Lit → Lit → Type 0
-IsFalse assigned l = Contains assigned (denial l)
+IsFalse assigned l = Contains assigned (negation l)
 
 abbrev pub IsOpen : List Lit → Lit → Type 0
-IsOpen assigned l = ¬ Contains assigned l × ¬ Contains assigned (denial l)
+IsOpen assigned l = ¬ Contains assigned l × ¬ Contains assigned (negation l)
 
 -- the literal is the only one of the clause that is not false, and it is open
 pub record IsUnit (assigned clause : List Lit) (l : Lit) : Type 0 where

@@ -2,7 +2,7 @@
 use Rattle.std.specs.Prelude.{ℕ, false, Bool, List, All, Any, IsTrue, ◌≡◌, ◌↔◌, ◌⊎◌, map, slice_index_or}
 use Rattle.cnf_core.specs.declared.formula.Lit.{Lit}
 use Rattle.cnf_core.specs.declared.derivation.Step.{Step}
-use Rattle.cnf_core.specs.Literal.{denial, IsApart}
+use Rattle.cnf_core.specs.Literal.{negation, IsApart}
 use Rattle.refutation_checker.specs.Derivation.{IsVariable}
 use Rattle.refutation_checker.specs.Hints.{HintsConflict}
 
@@ -22,4 +22,4 @@ AddsVariables old new lits = (var : ℕ) → IsDeclared new var ↔ (IsDeclared 
 pub record FollowsAmong (declared : List Bool) (clauses : List (List Lit)) (step : Step) : Type 0 where
   pub variables : All (λ l. IsDeclared declared l.var) step.clause
   pub apart : IsApart step.clause
-  pub conflict : HintsConflict clauses (map denial step.clause) step.hints
+  pub conflict : HintsConflict clauses (map negation step.clause) step.hints

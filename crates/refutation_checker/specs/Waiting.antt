@@ -1,15 +1,15 @@
 -- Propagation along the trail: each clause says nothing, or waits for a literal that is still ahead.
 use Rattle.std.specs.Prelude.{◌≡◌, ℕ, ◌≤◌, ◌⊎◌, Bool, true, false, List, Some, All, Any, Contains, length, drop, slice_get}
 use Rattle.cnf_core.specs.declared.formula.Lit.{Lit}
-use Rattle.cnf_core.specs.Literal.{denial}
+use Rattle.cnf_core.specs.Literal.{negation}
 use Rattle.refutation_checker.specs.Hints.{IsFalse}
 use Rattle.refutation_checker.specs.ClauseStates.{IsState}
 use Rattle.refutation_checker.specs.Propagated.{Grew}
 use Rattle.refutation_checker.specs.declared.clause_state.ClauseState.TheVariants.{Other}
 
--- a literal of the clause is denied by the trail from the head on
+-- a literal of the clause is falsified by the trail from the head on
 abbrev pub IsAhead : List Lit → ℕ → List Lit → Type 0
-IsAhead trail head clause = (l : Lit) × Contains clause l × Contains (drop head trail) (denial l)
+IsAhead trail head clause = (l : Lit) × Contains clause l × Contains (drop head trail) (negation l)
 
 abbrev pub Waits : List Lit → ℕ → List Lit → Type 0
 Waits trail head clause = IsState trail clause Other ⊎ IsAhead trail head clause
@@ -25,7 +25,7 @@ EndsVisit clauses places old new true = Any (All (IsFalse new)) clauses
 EndsVisit clauses places old new false = Settles clauses places old new
 
 -- a visit of the clauses at the places: how it ends, and that the trail grew
-pub record Visits (clauses : List (List Lit)) (places : List ℕ) (old new : List Lit) (denied : Bool) : Type 0 where
+pub record Visits (clauses : List (List Lit)) (places : List ℕ) (old new : List Lit) (falsified : Bool) : Type 0 where
   pub grew : Grew clauses old new
   pub longer : length old ≤ length new
-  pub ends : EndsVisit clauses places old new denied
+  pub ends : EndsVisit clauses places old new falsified

@@ -44,7 +44,8 @@ impl Model for Assignment {
 
     ghost view = { λ a. record { width = length a.values.items; trail = a.trail.items } };
 
-    ghost invariant = { λ a. Agrees a.values.items a.trail.items × (length a.values.items ≤ vec_capacity a.trail) };
+    ghost invariant = { λ a. Agrees a.values.items a.trail.items
+        × (length a.values.items ≤ vec_capacity a.trail) };
 }
 
 impl Assignment {

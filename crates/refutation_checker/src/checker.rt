@@ -89,7 +89,7 @@ impl Checker {
         self.add_step(step).map_err(CheckFault::Memory)
     }
 
-    /// Adds the cube, as the clause of its denied literals, where it is a least conflict.
+    /// Adds the cube, as the clause of the negations of its literals, where it is a least conflict.
     pub fn accept_cube(&mut self, cube: &Cube) -> Result<(), CheckFault>
         ensures refused { result ≡ Err CheckFault.BadStep
             → ¬ IsLeastConflict self.old.inputs (known self.old) cube.now }

@@ -37,7 +37,8 @@ impl ClauseDatabase {
     pub fn of(alloc: Global, clauses: &[Clause], inputs: u32) -> Result<ClauseDatabase, AllocError>
         ensures inputs { IfOk result (λ known. inputs < known.width) }
         ensures clauses { IfOk result (λ known. known.clauses ≡ clauses.now) }
-        ensures least { IfOk result (λ known. (n : ℕ) → inputs < n → All (IsWithin n) clauses.now → known.width ≤ n) }
+        ensures least { IfOk result (λ known. (n : ℕ) → inputs < n
+            → All (IsWithin n) clauses.now → known.width ≤ n) }
     {
         let width = highest_variable(clauses, inputs) as usize + 1;
         let mut known = ClauseDatabase::new(alloc, width, clauses.len())?;

@@ -12,7 +12,7 @@ use cnf_core::Lit;
 #[derive(Clone, Copy, Debug)]
 pub enum ClauseState {
     /// Each literal is false.
-    Denied,
+    Falsified,
     /// Each literal but this one is false, and this one is open.
     Unit(Lit),
     /// A literal is true, or two are open.

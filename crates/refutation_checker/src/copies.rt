@@ -1,7 +1,7 @@
 //! Copies of literals, clauses and steps.
 
 ghost use Rattle.std.specs.Prelude.{◌≡◌, IfOk, map};
-ghost use Rattle.cnf_core.specs.Literal.{denial};
+ghost use Rattle.cnf_core.specs.Literal.{negation};
 ghost use Rattle.refutation_checker.specs.Derivation.{clause_of};
 
 use cnf_core::{Clause, Cube, Derived, Lit, Step};
@@ -28,18 +28,18 @@ pub fn line_clause(alloc: Global, line: &Derived) -> Result<Clause, AllocError>
     ensures { IfOk result (λ clause. clause ≡ clause_of line.now) }
 {
     match line {
-        Derived::Cube(cube) => denials(alloc, cube),
+        Derived::Cube(cube) => negations(alloc, cube),
         Derived::Step(step) => copy(alloc, &step.clause),
     }
 }
 
-/// The clause of the cube's denied literals.
-fn denials(alloc: Global, cube: &Cube) -> Result<Clause, AllocError>
-    ensures { IfOk result (λ clause. clause ≡ map denial cube.now) }
+/// The clause of the negations of the cube's literals.
+fn negations(alloc: Global, cube: &Cube) -> Result<Clause, AllocError>
+    ensures { IfOk result (λ clause. clause ≡ map negation cube.now) }
 {
     let mut clause = Vec::with_capacity(alloc, cube.len())?;
     for l in cube.as_slice() {
-        clause.push(l.denied())?;
+        clause.push(!*l)?;
     }
     Ok(Items::from_vec(clause))
 }

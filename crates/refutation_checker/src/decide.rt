@@ -2,7 +2,7 @@
 
 ghost use Rattle.std.specs.Prelude.{◌≡◌, ◌<◌, ◌≤◌, ◌++◌, ◌∷◌, [], ◌↔◌, IsTrue, length, map};
 ghost use Rattle.std.specs.Bool.{OnTrue};
-ghost use Rattle.cnf_core.specs.Literal.{denial, IsApart};
+ghost use Rattle.cnf_core.specs.Literal.{negation, IsApart};
 ghost use Rattle.refutation_checker.specs.Assigned.{IsWithin};
 
 use crate::assignment::{Assignment, Truth};
@@ -27,15 +27,15 @@ pub fn decide(row: &mut Assignment, lits: &[Lit]) -> bool
 }
 
 /// Sets the literals of the clause false; false where a variable stands twice.
-pub fn deny(row: &mut Assignment, clause: &[Lit]) -> bool
+pub fn falsify(row: &mut Assignment, clause: &[Lit]) -> bool
     requires within { IsWithin row.old.width clause.now }
     requires nothing_set { row.old.trail ≡ [] }
     ensures answer { IsTrue result ↔ IsApart clause.now }
-    ensures trail { OnTrue result (row.new.trail ≡ map denial clause.now) }
+    ensures trail { OnTrue result (row.new.trail ≡ map negation clause.now) }
     ensures width { row.new.width ≡ row.old.width }
 {
     for l in clause {
-        if !decide_one(row, l.denied()) {
+        if !decide_one(row, !*l) {
             return false;
         }
     }

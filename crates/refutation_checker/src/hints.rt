@@ -9,7 +9,7 @@ ghost use Rattle.refutation_checker.specs.ClauseStates.{IsHintState};
 use crate::assignment::Assignment;
 use crate::clause_database::ClauseDatabase;
 use crate::clause_state::ClauseState;
-use crate::decide::deny;
+use crate::decide::falsify;
 use crate::variables::are_declared;
 use cnf_core::{Clause, Step};
 
@@ -25,7 +25,7 @@ pub fn follows(known: &ClauseDatabase, row: &mut Assignment, declared: &[bool], 
     if !are_declared(declared, clause) {
         return false;
     }
-    if !deny(row, clause) {
+    if !falsify(row, clause) {
         row.clear();
         return false;
     }
@@ -43,7 +43,7 @@ fn hints_conflict(known: &ClauseDatabase, row: &mut Assignment, hints: &[u32]) -
     let clauses = known.clauses();
     for hint in hints {
         match hint_state(clauses, *hint, row) {
-            ClauseState::Denied => return true,
+            ClauseState::Falsified => return true,
             ClauseState::Unit(l) => row.set(l),
             ClauseState::Other => return false,
         }

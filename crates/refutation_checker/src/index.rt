@@ -84,7 +84,8 @@ fn add_occurrences(
     requires { All (λ l. code_of l < length occurrences.old.items) clause.now }
     ensures size { length occurrences.new.items ≡ length occurrences.old.items }
     ensures keeps { Keeps occurrences.old.items occurrences.new.items }
-    ensures added { OnOk result ((l : Literal) → Contains clause.now l → Occurs occurrences.new.items l place) }
+    ensures added { OnOk result ((l : Literal) → Contains clause.now l
+        → Occurs occurrences.new.items l place) }
 {
     for l in clause {
         let list = &mut occurrences[code(*l)];

@@ -14,8 +14,6 @@ mod index;
 mod look;
 mod plain;
 mod propagation;
-#[cfg(test)]
-mod tests;
 mod variables;
 mod watches;
 

@@ -20,10 +20,10 @@ pub struct Look {
 impl Look {
     /// A look at no literal yet.
     pub fn new() -> Look
-        ensures { result.state ≡ ClauseState.Denied }
+        ensures { result.state ≡ ClauseState.Falsified }
     {
         Look {
-            state: ClauseState::Denied,
+            state: ClauseState::Falsified,
             watches: Watches::both(0),
         }
     }
@@ -59,7 +59,7 @@ impl Look {
             Truth::False => self,
             Truth::True => self.ended(place),
             Truth::Open => match self.state {
-                ClauseState::Denied => Look {
+                ClauseState::Falsified => Look {
                     state: ClauseState::Unit(l),
                     watches: Watches::both(place),
                 },

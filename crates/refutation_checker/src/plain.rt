@@ -48,7 +48,7 @@ fn one_pass(clauses: &[Clause], row: &mut Assignment) -> Pass
     let mut changed = false;
     for clause in clauses {
         match ClauseState::of(clause.as_slice(), row) {
-            ClauseState::Denied => return Pass::Conflict,
+            ClauseState::Falsified => return Pass::Conflict,
             ClauseState::Unit(l) => {
                 row.set(l);
                 changed = true;

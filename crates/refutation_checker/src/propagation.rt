@@ -24,16 +24,16 @@ pub fn propagate(known: &ClauseDatabase, row: &mut Assignment) -> bool
     }
     let mut head = 0;
     while head < row.count() {
-        let denied = row.nth(head).denied();
+        let falsified = !row.nth(head);
         head += 1;
-        if visit(known, known.occurrences(denied), row) {
+        if visit(known, known.occurrences(falsified), row) {
             return true;
         }
     }
     false
 }
 
-/// Sets what the clauses at the places leave, one after the other; true where one is denied.
+/// Sets what the clauses at the places leave, one after the other; true where one is falsified.
 fn visit(known: &ClauseDatabase, places: &[usize], row: &mut Assignment) -> bool
     requires { row.old.width ≡ known.now.width }
     ensures visits { Visits known.now.clauses places.now row.old.trail row.new.trail result }
@@ -45,7 +45,7 @@ fn visit(known: &ClauseDatabase, places: &[usize], row: &mut Assignment) -> bool
             continue;
         };
         match ClauseState::from_watches(clause.as_slice(), *place, row) {
-            ClauseState::Denied => return true,
+            ClauseState::Falsified => return true,
             ClauseState::Unit(l) => row.set(l),
             ClauseState::Other => (),
         }

@@ -63,7 +63,8 @@ fn declare_inputs(row: &mut [bool], inputs: u32)
 
 fn declare_all(row: &mut [bool], clauses: &[Clause])
     requires within { All (IsWithin (length row.old)) clauses.now }
-    ensures { (var : ℕ) → IsDeclared row.new var ↔ (IsDeclared row.old var ⊎ Any (Any (λ l. l.var ≡ var)) clauses.now) }
+    ensures { (var : ℕ) → IsDeclared row.new var
+        ↔ (IsDeclared row.old var ⊎ Any (Any (λ l. l.var ≡ var)) clauses.now) }
 {
     for clause in clauses {
         declare(row, clause.as_slice());

@@ -1,3 +1,4 @@
+pub mod Appends
 pub mod Decide
 pub mod Ended
 pub mod Endings

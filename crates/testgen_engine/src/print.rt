@@ -14,8 +14,8 @@ ghost use Rattle.testgen_engine.specs.TestText.{test_text};
 
 use crate::decide::Decided;
 use crate::output::write_all;
-use crate::report::write_report;
-use crate::test_text::write_test;
+use crate::report::report_text;
+use crate::test_text::test_text;
 use p4_meaning::{Test, Verdict};
 use p4_program::{Bounds, Program};
 use sqlite_items::Items;
@@ -55,7 +55,7 @@ fn print_test<D: Desk>(
     ensures stays { KeepsReading (D.moment desk.old) (D.moment desk.new) }
 {
     let statements = credits_of(alloc, verdicts, number)?;
-    let text = write_test(alloc, program, number, statements.as_slice(), test)?;
+    let text = test_text(alloc, program, number, statements.as_slice(), test)?;
     write_all(desk, Out::Test(number), text.as_bytes())
 }
 
@@ -100,7 +100,7 @@ pub fn print<D: Desk>(
 {
     let verdicts = decided.verdicts.as_slice();
     let tests = decided.tests.as_slice();
-    let report = write_report(alloc, bounds, program, verdicts, tests)?;
+    let report = report_text(alloc, bounds, program, verdicts, tests)?;
     print_tests(alloc, desk, program, verdicts, tests)?;
     write_all(desk, Out::Report, report.as_bytes())
 }

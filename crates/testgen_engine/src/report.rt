@@ -3,6 +3,7 @@
 ghost use Rattle.std.specs.Prelude.{◌≡◌, ◌++◌, OnOk, IfOk, length, map, count_by, string_bytes};
 ghost use Rattle.p4_program.specs.Blocks.{place_of, places_of};
 ghost use Rattle.p4_program.specs.Numbered.{number_of, numbers_from};
+ghost use Rattle.testgen_engine.specs.Appends.{Appends};
 ghost use Rattle.testgen_engine.specs.Report.{bounds_line, statement_line, statement_lines, is_undecided_nibble, nibble_line, nibble_lines, nibbles_of, undecided_lines, undecided_nibbles, is_covered, is_unreachable, is_unsteady, is_undecided, counts_of, verdict_counts, test_counts, counts_line, report_text};
 
 use p4_meaning::{Expected, Nibble, Test, Verdict};
@@ -24,7 +25,7 @@ pub struct Counts {
 
 /// Adds the line of the bounds.
 fn push_bounds(text: &mut String, bounds: Bounds) -> Result<(), AllocError>
-    ensures { OnOk result (string_bytes text.new ≡ string_bytes text.old ++ bounds_line bounds) }
+    ensures { Appends text.old text.new result (bounds_line bounds) }
 {
     let Bounds {
         bytes,
@@ -45,8 +46,7 @@ fn push_statement(
     place: Span,
     verdict: Verdict,
 ) -> Result<(), AllocError>
-    ensures { OnOk result
-        (string_bytes text.new ≡ string_bytes text.old ++ statement_line number place verdict) }
+    ensures { Appends text.old text.new result (statement_line number place verdict) }
 {
     let Span { line, column } = place;
     writeln!(text, "{number} {line}:{column} {verdict}")
@@ -54,8 +54,7 @@ fn push_statement(
 
 /// Adds the line of an undecided nibble.
 fn push_nibble(text: &mut String, test: usize, place: usize) -> Result<(), AllocError>
-    ensures { OnOk result
-        (string_bytes text.new ≡ string_bytes text.old ++ nibble_line test place) }
+    ensures { Appends text.old text.new result (nibble_line test place) }
 {
     writeln!(text, "test {test} nibble {place} undecided")
 }
@@ -68,8 +67,7 @@ fn push_statements(
 ) -> Result<(), AllocError>
     requires numbers { map number_of statements.now ≡ numbers_from 1 (length statements.now) }
     requires verdicts { length statements.now ≡ length verdicts.now }
-    ensures { OnOk result (string_bytes text.new
-        ≡ string_bytes text.old ++ statement_lines 1 (map place_of statements.now) verdicts.now) }
+    ensures { Appends text.old text.new result (statement_lines 1 (map place_of statements.now) verdicts.now) }
 {
     for (index, statement) in statements.iter().enumerate() {
         push_statement(text, statement.number, statement.place, verdicts[index])?;
@@ -79,8 +77,7 @@ fn push_statements(
 
 /// Adds the lines of a test's undecided nibbles, and answers how many there are.
 fn push_nibbles(text: &mut String, test: usize, nibbles: &[Nibble]) -> Result<usize, AllocError>
-    ensures lines { OnOk result
-        (string_bytes text.new ≡ string_bytes text.old ++ nibble_lines test 0 nibbles.now) }
+    ensures lines { Appends text.old text.new result (nibble_lines test 0 nibbles.now) }
     ensures count { IfOk result (λ count. count ≡ count_by is_undecided_nibble nibbles.now) }
 {
     let mut count = 0;
@@ -145,8 +142,7 @@ fn undecided_count(verdicts: &[Verdict]) -> usize
 
 /// Adds the lines of the tests' undecided nibbles, and answers how many there are.
 fn push_undecided(text: &mut String, tests: &[Test]) -> Result<u128, AllocError>
-    ensures lines { OnOk result
-        (string_bytes text.new ≡ string_bytes text.old ++ undecided_lines 1 tests.now) }
+    ensures lines { Appends text.old text.new result (undecided_lines 1 tests.now) }
     ensures count { IfOk result (λ count. count ≡ undecided_nibbles tests.now) }
 {
     let mut count = 0u128;
@@ -175,7 +171,7 @@ fn count(verdicts: &[Verdict], tests: &[Test], nibbles: u128) -> Counts
 
 /// Adds the counts of verdicts.
 fn push_verdict_counts(text: &mut String, counts: Counts) -> Result<(), AllocError>
-    ensures { OnOk result (string_bytes text.new ≡ string_bytes text.old ++ verdict_counts counts) }
+    ensures { Appends text.old text.new result (verdict_counts counts) }
 {
     let Counts {
         statements,
@@ -193,7 +189,7 @@ fn push_verdict_counts(text: &mut String, counts: Counts) -> Result<(), AllocErr
 
 /// Adds the counts of tests and of their undecided nibbles.
 fn push_test_counts(text: &mut String, counts: Counts) -> Result<(), AllocError>
-    ensures { OnOk result (string_bytes text.new ≡ string_bytes text.old ++ test_counts counts) }
+    ensures { Appends text.old text.new result (test_counts counts) }
 {
     let Counts { tests, nibbles, .. } = counts;
     writeln!(text, "tests {tests} nibbles {nibbles}")
@@ -201,14 +197,14 @@ fn push_test_counts(text: &mut String, counts: Counts) -> Result<(), AllocError>
 
 /// Adds the line of the counts.
 fn push_counts(text: &mut String, counts: Counts) -> Result<(), AllocError>
-    ensures { OnOk result (string_bytes text.new ≡ string_bytes text.old ++ counts_line counts) }
+    ensures { Appends text.old text.new result (counts_line counts) }
 {
     push_verdict_counts(text, counts)?;
     push_test_counts(text, counts)
 }
 
 /// The report of verdicts and tests.
-pub fn write_report(
+pub fn report_text(
     alloc: Global,
     bounds: Bounds,
     program: &Program,

@@ -1,6 +1,7 @@
 //! The text of a test, one spelling for each test.
 ghost use Rattle.std.specs.Prelude.{◌≡◌, ◌∷◌, [], ◌++◌, OnOk, IfOk, IsTrue, string_bytes};
 ghost use Rattle.p4_meaning.specs.Expected.{is_digit, is_printable};
+ghost use Rattle.testgen_engine.specs.Appends.{Appends};
 ghost use Rattle.testgen_engine.specs.TestText.{title_line, packet_line, glyph_of, expect_line, test_text};
 
 use p4_meaning::{Expected, Nibble, Test};
@@ -9,8 +10,7 @@ use std::alloc::{AllocError, Global};
 
 /// Adds the line with the number of a test and the statements that it is credited with.
 fn push_title(text: &mut String, number: u32, statements: &[u32]) -> Result<(), AllocError>
-    ensures { OnOk result
-        (string_bytes text.new ≡ string_bytes text.old ++ title_line number statements.now) }
+    ensures { Appends text.old text.new result (title_line number statements.now) }
 {
     write!(text, "# test {number} covers")?;
     for statement in statements {
@@ -21,7 +21,7 @@ fn push_title(text: &mut String, number: u32, statements: &[u32]) -> Result<(), 
 
 /// Adds the line of the packet.
 fn push_packet(alloc: Global, text: &mut String, input: &Input) -> Result<(), AllocError>
-    ensures { OnOk result (string_bytes text.new ≡ string_bytes text.old ++ packet_line input.now) }
+    ensures { Appends text.old text.new result (packet_line input.now) }
 {
     let port = input.port;
     let digits = hex::encode(alloc, input.packet.as_slice())?;
@@ -31,7 +31,7 @@ fn push_packet(alloc: Global, text: &mut String, input: &Input) -> Result<(), Al
 /// Adds a nibble's digit, or a star.
 fn push_nibble(text: &mut String, nibble: Nibble) -> Result<(), AllocError>
     requires { IsTrue (is_digit nibble) }
-    ensures { OnOk result (string_bytes text.new ≡ string_bytes text.old ++ glyph_of nibble ∷ []) }
+    ensures { Appends text.old text.new result (glyph_of nibble ∷ []) }
 {
     match nibble {
         Nibble::Fixed(digit) => write!(text, "{digit:x}"),
@@ -42,8 +42,7 @@ fn push_nibble(text: &mut String, nibble: Nibble) -> Result<(), AllocError>
 /// Adds the line of what is expected, none where no packet is.
 fn push_expected(text: &mut String, expected: &Expected) -> Result<(), AllocError>
     requires { IsTrue (is_printable expected.now) }
-    ensures { OnOk result
-        (string_bytes text.new ≡ string_bytes text.old ++ expect_line expected.now) }
+    ensures { Appends text.old text.new result (expect_line expected.now) }
 {
     let Expected::Packet { port, nibbles } = expected else {
         return Ok(());
@@ -56,7 +55,7 @@ fn push_expected(text: &mut String, expected: &Expected) -> Result<(), AllocErro
 }
 
 /// The text of a test of the program, with its number and the statements that it is credited with.
-pub fn write_test(
+pub fn test_text(
     alloc: Global,
     _program: &Program,
     number: u32,

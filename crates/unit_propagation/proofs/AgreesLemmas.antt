@@ -7,7 +7,7 @@ use Rattle.std.proofs.lemmas.Bool.{cases_eq, cases_lt}
 use Rattle.std.proofs.lemmas.List.Sums.{sum_by-set, sum_by_push, count_by-le-length}
 use Rattle.std.proofs.lemmas.List.Elements.{All-contains, Contains-push, Contains-push_cases, Contains-append_left, Contains-get_or}
 use Rattle.cnf_core.specs.declared.formula.Lit.{Lit}
-use Rattle.cnf_core.specs.Literal.{denial}
+use Rattle.cnf_core.specs.Literal.{negation}
 use Rattle.cnf_core.proofs.Literals.{lit, lit-same}
 use Rattle.unit_propagation.specs.Units.{IsOpen}
 use Rattle.unit_propagation.proofs.ApartLemmas.{apart_open, apart_front, apart_last}
@@ -113,13 +113,13 @@ not_same false e = absurd (cc)
 pub stands_false : (values : List Truth) (trail : List Lit) (l : Lit) → Agrees values trail →
     get_or values l.var Open ≡ truth_of (not l.positive) → StandsAs trail l False
 stands_false values trail l h other =
-    (h.on_trail (denial l) other, λ here. not_same l.positive (sym (h.holds_trail l here) ∙ other))
+    (h.on_trail (negation l) other, λ here. not_same l.positive (sym (h.holds_trail l here) ∙ other))
 
 -- a literal whose variable has its sign in the row is true
 pub stands_true : (values : List Truth) (trail : List Lit) (l : Lit) → Agrees values trail →
     get_or values l.var Open ≡ truth_of l.positive → StandsAs trail l True
 stands_true values trail l h here =
-    (h.on_trail l here, λ other. not_same l.positive (sym here ∙ h.holds_trail (denial l) other))
+    (h.on_trail l here, λ other. not_same l.positive (sym here ∙ h.holds_trail (negation l) other))
 
 -- a literal on the trail has its variable in the row, since that variable is not open there
 pub within : (values : List Truth) (trail : List Lit) → Agrees values trail → IsWithin (length values) trail
@@ -180,5 +180,5 @@ agrees_grow values trail h = record {
       omega arith
 
 -- no literal is on the trail together with its negation
-pub consistent : (values : List Truth) (trail : List Lit) → Agrees values trail → (l : Lit) → Contains trail l → Contains trail (denial l) → ⊥
-consistent values trail h l here there = not_same l.positive (sym (h.holds_trail l here) ∙ h.holds_trail (denial l) there)
+pub consistent : (values : List Truth) (trail : List Lit) → Agrees values trail → (l : Lit) → Contains trail l → Contains trail (negation l) → ⊥
+consistent values trail h l here there = not_same l.positive (sym (h.holds_trail l here) ∙ h.holds_trail (negation l) there)

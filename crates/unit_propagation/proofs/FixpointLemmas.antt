@@ -6,7 +6,7 @@ use Rattle.std.proofs.lemmas.List.{get_or-take, get_or_default, length-take-le}
 use Rattle.std.proofs.lemmas.List.Elements.{All-contains, Contains-get_or, All-cons, All-tail}
 use Rattle.std.proofs.lemmas.Option.{get_or_from_slice_get, slice_get_within}
 use Rattle.cnf_core.specs.declared.formula.Lit.{Lit}
-use Rattle.cnf_core.specs.Literal.{denial, LitSet}
+use Rattle.cnf_core.specs.Literal.{negation, LitSet}
 use Rattle.cnf_core.specs.Propagation.{Leaves, IsClosed, Sets, Conflicts}
 use Rattle.cnf_core.proofs.Literals.{lit-cases, no_lit}
 use Rattle.unit_propagation.specs.Units.{IsFalse}
@@ -48,10 +48,10 @@ InClosed trail set n = (place : ℕ) (d : Lit) → place < n → IsTrue (set (ge
 next_in_closed : (clauses : List (List Lit)) (trail : List Lit) (reasons : List (Option ℕ)) (set : LitSet) → length reasons ≡ length trail → IsJustified clauses trail reasons →
     IsClosed clauses (decided trail reasons) set → (n : ℕ) (d : Lit) → n < length trail → InClosed trail set n → IsTrue (set (get_or trail n d))
 next_in_closed clauses trail reasons set same justified closed n d inside earlier = here (reason_cases (get_or reasons n None)) where
-  false_in : (k : Lit) → IsFalse (take n trail) k → IsTrue (set (denial k))
+  false_in : (k : Lit) → IsFalse (take n trail) k → IsTrue (set (negation k))
   false_in k (i, within, at) =
       let size = length-take-le n trail (omega arith) in
-      subst (λ (x : Lit). IsTrue (set x)) (sym (get_or-take n trail i (denial k) (omega arith)) ∙ at) (earlier i (denial k) (omega arith))
+      subst (λ (x : Lit). IsTrue (set x)) (sym (get_or-take n trail i (negation k) (omega arith)) ∙ at) (earlier i (negation k) (omega arith))
 
   implied : (c : ℕ) → Explains clauses trail n c (get_or trail n d) → IsTrue (set (get_or trail n d))
   implied c (clause, at, unit) = closed.closes clause (get_or trail n d) (c, slice_get_within clauses c clause at, get_or_from_slice_get clauses c clause clause at) unit.stands
@@ -78,20 +78,20 @@ are_set clauses trail reasons same justified k d inside set closed = in_closed c
 
 -- a clause whose literals are false is a conflict
 pub conflicts_false : (clauses : List (List Lit)) (decisions trail : List Lit) (c : ℕ) → All (Sets clauses decisions) trail → IsFalseClause clauses trail c → Conflicts clauses decisions
-conflicts_false clauses decisions trail c are (inside, denied) = (
+conflicts_false clauses decisions trail c are (inside, falsified) = (
   c,
   get_or clauses c [],
   inside,
   get_or_same clauses c inside,
-  λ i d within. All-contains (Sets clauses decisions) trail (denial (get_or (get_or clauses c []) i d)) are (denied [] i d within),
+  λ i d within. All-contains (Sets clauses decisions) trail (negation (get_or (get_or clauses c []) i d)) are (falsified [] i d within),
 ) where
   get_or_same : (cs : List (List Lit)) (n : ℕ) → n < length cs → get_or cs n (get_or cs n []) ≡ get_or cs n []
   get_or_same cs n below = get_or_default cs n (get_or cs n []) [] below
 
 -- a clause with a true literal says nothing
-nothing_true : (trail clause : List Lit) → ((l : Lit) → Contains trail l → Contains trail (denial l) → ⊥) → Any (Contains trail) clause → SaysNothing trail clause
+nothing_true : (trail clause : List Lit) → ((l : Lit) → Contains trail l → Contains trail (negation l) → ⊥) → Any (Contains trail) clause → SaysNothing trail clause
 nothing_true trail clause consistent (k, x, inside, at, is) = (
-  (λ denied. consistent x is (All-contains (IsFalse trail) clause x denied (k, inside, at))),
+  (λ falsified. consistent x is (All-contains (IsFalse trail) clause x falsified (k, inside, at))),
   (λ l unit. elim (lit-cases x l) [
     | inl same ↦ unit.is_open.0 (subst (Contains trail) same is)
     | inr differs ↦ consistent x is (All-contains (λ y. y ≢ l → IsFalse trail y) clause x unit.alone (k, inside, at) differs)
@@ -101,7 +101,7 @@ nothing_true trail clause consistent (k, x, inside, at, is) = (
 -- a clause with two literals that are not false says nothing
 nothing_two : (trail clause : List Lit) (x y : Lit) → Contains clause x → Contains clause y → x ≢ y → (IsFalse trail x → ⊥) → (IsFalse trail y → ⊥) → SaysNothing trail clause
 nothing_two trail clause x y x_stands y_stands differ x_free y_free = (
-  (λ denied. x_free (All-contains (IsFalse trail) clause x denied x_stands)),
+  (λ falsified. x_free (All-contains (IsFalse trail) clause x falsified x_stands)),
   (λ l unit. elim (lit-cases x l) [
     | inl same ↦ y_free (All-contains (λ k. k ≢ l → IsFalse trail k) clause y unit.alone y_stands (λ e. differ (same ∙ sym e)))
     | inr differs ↦ x_free (All-contains (λ k. k ≢ l → IsFalse trail k) clause x unit.alone x_stands differs)
@@ -109,7 +109,7 @@ nothing_two trail clause x y x_stands y_stands differ x_free y_free = (
 )
 
 -- where all clauses are ready for the whole trail, none says anything
-pub fixed : (w : Watched) (trail : List Lit) → IsIndexed w.width w.clauses w.pairs w.lists → ((l : Lit) → Contains trail l → Contains trail (denial l) → ⊥) →
+pub fixed : (w : Watched) (trail : List Lit) → IsIndexed w.width w.clauses w.pairs w.lists → ((l : Lit) → Contains trail l → Contains trail (negation l) → ⊥) →
     AllReady w.clauses w.pairs trail trail → LooseAreTrue w.clauses w.pairs trail → All (SaysNothing trail) w.clauses
 fixed w trail h consistent ready loose c clause inside = says (ready c no_pair clause within) where
   no_pair : Pair
@@ -140,18 +140,18 @@ closed_fixed clauses decisions trail keeps fixed = record { decides = decides; c
       let says : SaysNothing trail clause = All-contains (SaysNothing trail) clauses clause fixed stands in
       elim (cases_Bool (has l trail)) [
         | inl here ↦ here
-        | inr not_here ↦ elim (cases_Bool (has (denial l) trail)) [
+        | inr not_here ↦ elim (cases_Bool (has (negation l) trail)) [
           | inl is_false ↦ absurd (says.0 (λ k d inside. elim (lit-cases (get_or clause k d) l) [
-            | inl same ↦ has_contains (denial (get_or clause k d)) trail (ap (λ (x : Lit). has (denial x) trail) same ∙ is_false)
-            | inr differs ↦ has_contains (denial (get_or clause k d)) trail (leaves k d inside differs)
+            | inl same ↦ has_contains (negation (get_or clause k d)) trail (ap (λ (x : Lit). has (negation x) trail) same ∙ is_false)
+            | inr differs ↦ has_contains (negation (get_or clause k d)) trail (leaves k d inside differs)
           ]))
           | inr not_false ↦ absurd (says.1 l (record {
             stands = in_clause;
             is_open = (
               (λ h. both_ways (has l trail) not_here (contains_has l trail h)),
-              (λ h. both_ways (has (denial l) trail) not_false (contains_has (denial l) trail h)),
+              (λ h. both_ways (has (negation l) trail) not_false (contains_has (negation l) trail h)),
             );
-            alone = λ k d inside differs. has_contains (denial (get_or clause k d)) trail (leaves k d inside differs);
+            alone = λ k d inside differs. has_contains (negation (get_or clause k d)) trail (leaves k d inside differs);
           }))
         ]
       ]
@@ -167,14 +167,14 @@ pub no_conflict_fixed : (clauses : List (List Lit)) (decisions trail : List Lit)
     All (SaysNothing trail) clauses → Conflicts clauses decisions → ⊥
 no_conflict_fixed clauses decisions trail keeps fixed (k, clause, inside, at, sets) =
     let says : SaysNothing trail clause = subst (SaysNothing trail) at (fixed k clause inside) in
-    says.0 (λ i d within. has_contains (denial (get_or clause i d)) trail (sets i d within (λ l. has l trail) (closed_fixed clauses decisions trail keeps fixed)))
+    says.0 (λ i d within. has_contains (negation (get_or clause i d)) trail (sets i d within (λ l. has l trail) (closed_fixed clauses decisions trail keeps fixed)))
 
 -- a clause whose variables are all set, and which is not false, has a true literal
-has_true : (trail clause : List Lit) → All (λ l. Contains trail l ⊎ Contains trail (denial l)) clause → (All (IsFalse trail) clause → ⊥) → Any (Contains trail) clause
+has_true : (trail clause : List Lit) → All (λ l. Contains trail l ⊎ Contains trail (negation l)) clause → (All (IsFalse trail) clause → ⊥) → Any (Contains trail) clause
 has_true trail [] total not_false = absurd (not_false (λ k d inside. absurd (omega arith)))
 has_true trail (x ∷ xs) total not_false = elim (total 0 x (omega arith)) [
   | inl here ↦ (0, x, omega arith, refl, here)
-  | inr is_false ↦ later (has_true trail xs (All-tail (λ l. Contains trail l ⊎ Contains trail (denial l)) x xs total) (λ rest. not_false (All-cons (IsFalse trail) x xs is_false rest)))
+  | inr is_false ↦ later (has_true trail xs (All-tail (λ l. Contains trail l ⊎ Contains trail (negation l)) x xs total) (λ rest. not_false (All-cons (IsFalse trail) x xs is_false rest)))
 ] where
   later : Any (Contains trail) xs → Any (Contains trail) (x ∷ xs)
   later (k, y, inside, at, is) = (suc k, y, omega arith, at, is)

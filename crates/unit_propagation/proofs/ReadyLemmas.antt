@@ -1,4 +1,4 @@
--- Visiting the clauses that watch a denied literal: at the start, past a clause, when a watch moves, and at the end.
+-- Visiting the clauses that watch a falsified literal: at the start, past a clause, when a watch moves, and at the end.
 use Rattle.std.proofs.Common.{◌≡◌, ◌⊎◌, ℕ, ◌+◌, ◌<◌, ◌≤◌, false, List, [], ◌∷◌, ◌++◌, length, get_or, take, drop, zero, suc, inl, inr, refl, ap, sym, ◌∙◌, subst, arith, add-one, drop-cons, length-append}
 use Rattle.std.specs.Prelude.{Any, Contains}
 use Rattle.std.proofs.Math.ListN.{set}
@@ -6,8 +6,8 @@ use Rattle.std.proofs.lemmas.Bool.{cases_eq, cases_Bool, both_ways}
 use Rattle.std.proofs.lemmas.List.{get_or-set_same, get_or-set_other, get_or_default, get_or_append_left, length-set, take-append-le, take_more, drop_all, take-append-drop}
 use Rattle.std.proofs.lemmas.List.Elements.{Contains-append_left, Contains-push_cases, Contains-push, All-contains}
 use Rattle.cnf_core.specs.declared.formula.Lit.{Lit}
-use Rattle.cnf_core.specs.Literal.{denial}
-use Rattle.cnf_core.proofs.Literals.{lit-cases, denial-denial}
+use Rattle.cnf_core.specs.Literal.{negation}
+use Rattle.cnf_core.proofs.Literals.{lit-cases, negation_negation}
 use Rattle.unit_propagation.specs.Units.{IsFalse}
 use Rattle.unit_propagation.specs.declared.pair.Pair.{Pair}
 use Rattle.unit_propagation.specs.Watching.{Watched, IsIndexed, IsOther, watches, pair_of, list_at}
@@ -17,10 +17,10 @@ use Rattle.unit_propagation.proofs.ListLemmas.{drop_swap_remove}
 
 -- each clause is ready past the head, or ready before it and still ahead in the list
 abbrev pub Visiting : List (List Lit) → List Pair → List (List ℕ) → List Lit → ℕ → Lit → ℕ → Type 0
-Visiting clauses pairs lists trail head denied place =
+Visiting clauses pairs lists trail head falsified place =
     (c : ℕ) (p : Pair) (clause : List Lit) → c < length pairs →
     Ready trail (take (head + 1) trail) (get_or pairs c p) (get_or clauses c clause) ⊎
-    (Ready trail (take head trail) (get_or pairs c p) (get_or clauses c clause) × Contains (drop place (list_at lists denied)) c)
+    (Ready trail (take head trail) (get_or pairs c p) (get_or clauses c clause) × Contains (drop place (list_at lists falsified)) c)
 
 any_grows : (trail more clause : List Lit) → Any (Contains trail) clause → Any (Contains (trail ++ more)) clause
 any_grows trail more clause (k, x, inside, at, is) = (k, x, inside, at, Contains-append_left trail more x is)
@@ -34,50 +34,50 @@ ready_grows trail more past p clause (inr free) = inr free
 
 ready_fewer : (trail past fewer : List Lit) (p : Pair) (clause : List Lit) → ((x : Lit) → Contains fewer x → Contains past x) → Ready trail past p clause → Ready trail fewer p clause
 ready_fewer trail past fewer p clause within (inl is) = inl is
-ready_fewer trail past fewer p clause within (inr (a, b)) = inr ((λ h. a (within (denial p.first) h)), (λ h. b (within (denial p.second) h)))
+ready_fewer trail past fewer p clause within (inr (a, b)) = inr ((λ h. a (within (negation p.first) h)), (λ h. b (within (negation p.second) h)))
 
 pub take_within : (trail : List Lit) (n : ℕ) (x : Lit) → Contains (take n trail) x → Contains trail x
 take_within trail n x h = subst (λ (t : List Lit). Contains t x) (take-append-drop n trail) (Contains-append_left (take n trail) (drop n trail) x h)
 
--- a literal that is denied past the head was denied before, or by the literal at the head
+-- a literal that is falsified past the head was falsified before, or by the literal at the head
 false_next : (trail : List Lit) (head : ℕ) (l x : Lit) → head < length trail → get_or trail head l ≡ l → IsFalse (take (head + 1) trail) x →
-    IsFalse (take head trail) x ⊎ (x ≡ denial l)
-false_next trail head l x inside at h = elim (Contains-push_cases (take head trail) (get_or trail head l) (denial x) (subst (λ (t : List Lit). Contains t (denial x)) (take_more trail head l inside) h)) [
+    IsFalse (take head trail) x ⊎ (x ≡ negation l)
+false_next trail head l x inside at h = elim (Contains-push_cases (take head trail) (get_or trail head l) (negation x) (subst (λ (t : List Lit). Contains t (negation x)) (take_more trail head l inside) h)) [
   | inl before ↦ inl before
-  | inr is ↦ inr (sym (denial-denial x) ∙ ap denial (sym is ∙ at))
+  | inr is ↦ inr (sym (negation_negation x) ∙ ap negation (sym is ∙ at))
 ]
 
-denied_next : (trail : List Lit) (head : ℕ) (l : Lit) → head < length trail → get_or trail head l ≡ l → IsFalse (take (head + 1) trail) (denial l)
-denied_next trail head l inside at = subst (λ (t : List Lit). Contains t (denial (denial l))) (sym (take_more trail head l inside))
-    (subst (Contains (take head trail ++ get_or trail head l ∷ [])) (at ∙ sym (denial-denial l)) (Contains-push (take head trail) (get_or trail head l)))
+falsified_next : (trail : List Lit) (head : ℕ) (l : Lit) → head < length trail → get_or trail head l ≡ l → IsFalse (take (head + 1) trail) (negation l)
+falsified_next trail head l inside at = subst (λ (t : List Lit). Contains t (negation (negation l))) (sym (take_more trail head l inside))
+    (subst (Contains (take head trail ++ get_or trail head l ∷ [])) (at ∙ sym (negation_negation l)) (Contains-push (take head trail) (get_or trail head l)))
 
--- a clause that does not watch the denied literal is ready past the head
+-- a clause that does not watch the falsified literal is ready past the head
 ready_next : (trail : List Lit) (head : ℕ) (l : Lit) (p : Pair) (clause : List Lit) → head < length trail → get_or trail head l ≡ l →
-    watches p (denial l) ≡ false → (p.first ≡ p.second → Any (Contains trail) clause) → Ready trail (take head trail) p clause → Ready trail (take (head + 1) trail) p clause
+    watches p (negation l) ≡ false → (p.first ≡ p.second → Any (Contains trail) clause) → Ready trail (take head trail) p clause → Ready trail (take (head + 1) trail) p clause
 ready_next trail head l p clause inside at apart loose (inl is) = inl is
 ready_next trail head l p clause inside at apart loose (inr (a, b)) = elim (lit-cases p.first p.second) [
   | inl same ↦ inl (loose same)
   | inr differ ↦ inr (
-    (λ h. elim (false_next trail head l p.first inside at h) [ inl before ↦ a before | inr is ↦ both_ways (watches p (denial l)) apart (watches_first p (denial l) differ is) ]),
-    (λ h. elim (false_next trail head l p.second inside at h) [ inl before ↦ b before | inr is ↦ both_ways (watches p (denial l)) apart (watches_second p (denial l) differ is) ]),
+    (λ h. elim (false_next trail head l p.first inside at h) [ inl before ↦ a before | inr is ↦ both_ways (watches p (negation l)) apart (watches_first p (negation l) differ is) ]),
+    (λ h. elim (false_next trail head l p.second inside at h) [ inl before ↦ b before | inr is ↦ both_ways (watches p (negation l)) apart (watches_second p (negation l) differ is) ]),
   )
 ]
 
 pub visiting_start : (w : Watched) (trail : List Lit) (head : ℕ) (l : Lit) → IsIndexed w.width w.clauses w.pairs w.lists → head < length trail → get_or trail head l ≡ l →
-    LooseAreTrue w.clauses w.pairs trail → AllReady w.clauses w.pairs trail (take head trail) → Visiting w.clauses w.pairs w.lists trail head (denial l) 0
-visiting_start w trail head l h inside at loose ready c p clause within = elim (cases_Bool (watches (get_or w.pairs c p) (denial l))) [
-  | inl is ↦ inr (ready c p clause within, h.listed c p within (denial l) is)
+    LooseAreTrue w.clauses w.pairs trail → AllReady w.clauses w.pairs trail (take head trail) → Visiting w.clauses w.pairs w.lists trail head (negation l) 0
+visiting_start w trail head l h inside at loose ready c p clause within = elim (cases_Bool (watches (get_or w.pairs c p) (negation l))) [
+  | inl is ↦ inr (ready c p clause within, h.listed c p within (negation l) is)
   | inr apart ↦ inl (ready_next trail head l (get_or w.pairs c p) (get_or w.clauses c clause) inside at apart (loose c p clause within) (ready c p clause within))
 ]
 
 -- all clauses are ready past the head where no list is needed
 pub visiting_none : (w : Watched) (trail : List Lit) (head : ℕ) (l : Lit) → IsIndexed w.width w.clauses w.pairs w.lists → head < length trail → get_or trail head l ≡ l →
     w.width ≤ l.var → LooseAreTrue w.clauses w.pairs trail → AllReady w.clauses w.pairs trail (take head trail) → AllReady w.clauses w.pairs trail (take (head + 1) trail)
-visiting_none w trail head l h inside at past loose ready c p clause within = elim (cases_Bool (watches (get_or w.pairs c p) (denial l))) [
+visiting_none w trail head l h inside at past loose ready c p clause within = elim (cases_Bool (watches (get_or w.pairs c p) (negation l))) [
   | inl is ↦
       let size = h.paired in
-      let stands : Contains (get_or w.clauses c clause) (denial l) = h.stands c p clause within (denial l) is in
-      let below : (denial l).var < w.width = All-contains (λ k. k.var < w.width) (get_or w.clauses c clause) (denial l) (h.within c clause (omega arith)) stands in
+      let stands : Contains (get_or w.clauses c clause) (negation l) = h.stands c p clause within (negation l) is in
+      let below : (negation l).var < w.width = All-contains (λ k. k.var < w.width) (get_or w.clauses c clause) (negation l) (h.within c clause (omega arith)) stands in
       absurd (omega arith)
   | inr apart ↦ ready_next trail head l (get_or w.pairs c p) (get_or w.clauses c clause) inside at apart (loose c p clause within) (ready c p clause within)
 ]
@@ -87,22 +87,22 @@ take_same trail more n inside = take-append-le n trail more inside
 
 -- a clause is passed that does not watch the literal, or has a true literal
 pub visiting_kept : (w : Watched) (trail more : List Lit) (head : ℕ) (l : Lit) (place : ℕ) → head < length trail → get_or trail head l ≡ l →
-    place < length (list_at w.lists (denial l)) → LooseAreTrue w.clauses w.pairs (trail ++ more) →
-    IsDone w (trail ++ more) (denial l) (clause_at w (denial l) place) →
-    Visiting w.clauses w.pairs w.lists trail head (denial l) place → Visiting w.clauses w.pairs w.lists (trail ++ more) head (denial l) (place + 1)
+    place < length (list_at w.lists (negation l)) → LooseAreTrue w.clauses w.pairs (trail ++ more) →
+    IsDone w (trail ++ more) (negation l) (clause_at w (negation l) place) →
+    Visiting w.clauses w.pairs w.lists trail head (negation l) place → Visiting w.clauses w.pairs w.lists (trail ++ more) head (negation l) (place + 1)
 visiting_kept w trail more head l place inside at here loose done visiting c p clause within = elim (visiting c p clause within) [
   | inl ready ↦ inl (subst (λ (past : List Lit). Ready (trail ++ more) past (get_or w.pairs c p) (get_or w.clauses c clause)) (sym (take_same trail more (head + 1) (omega arith)))
       (ready_grows trail more (take (head + 1) trail) (get_or w.pairs c p) (get_or w.clauses c clause) ready))
   | inr (ready, ahead) ↦ step (grown ready) (first ahead)
 ] where
   list : List ℕ
-  list = list_at w.lists (denial l)
+  list = list_at w.lists (negation l)
 
   grown : Ready trail (take head trail) (get_or w.pairs c p) (get_or w.clauses c clause) → Ready (trail ++ more) (take head (trail ++ more)) (get_or w.pairs c p) (get_or w.clauses c clause)
   grown ready = subst (λ (past : List Lit). Ready (trail ++ more) past (get_or w.pairs c p) (get_or w.clauses c clause)) (sym (take_same trail more head (omega arith)))
       (ready_grows trail more (take head trail) (get_or w.pairs c p) (get_or w.clauses c clause) ready)
 
-  first : Contains (drop place list) c → (clause_at w (denial l) place ≡ c) ⊎ Contains (drop (place + 1) list) c
+  first : Contains (drop place list) c → (clause_at w (negation l) place ≡ c) ⊎ Contains (drop (place + 1) list) c
   first ahead = split (drop (place + 1) list) (subst (λ (cs : List ℕ). Contains cs c) opened ahead) where
     opened : drop place list ≡ get_or list place 0 ∷ drop (place + 1) list
     opened = rw add-one (drop-cons list place 0 here)
@@ -114,23 +114,23 @@ visiting_kept w trail more head l place inside at here loose done visiting c p c
   at_more : get_or (trail ++ more) head l ≡ l
   at_more = get_or_append_left trail more l head inside ∙ at
 
-  step : Ready (trail ++ more) (take head (trail ++ more)) (get_or w.pairs c p) (get_or w.clauses c clause) → (clause_at w (denial l) place ≡ c) ⊎ Contains (drop (place + 1) list) c →
+  step : Ready (trail ++ more) (take head (trail ++ more)) (get_or w.pairs c p) (get_or w.clauses c clause) → (clause_at w (negation l) place ≡ c) ⊎ Contains (drop (place + 1) list) c →
       Ready (trail ++ more) (take (head + 1) (trail ++ more)) (get_or w.pairs c p) (get_or w.clauses c clause) ⊎
       (Ready (trail ++ more) (take head (trail ++ more)) (get_or w.pairs c p) (get_or w.clauses c clause) × Contains (drop (place + 1) list) c)
   step ready (inr later) = inr (ready, later)
   step ready (inl same) = elim done [
     | inl apart ↦ inl (ready_next (trail ++ more) head l (get_or w.pairs c p) (get_or w.clauses c clause) (omega (arith, length-append trail more)) at_more
-        (subst (λ (k : ℕ). watches (get_or w.pairs k p) (denial l) ≡ false) same (apart p)) (loose c p clause within) ready)
+        (subst (λ (k : ℕ). watches (get_or w.pairs k p) (negation l) ≡ false) same (apart p)) (loose c p clause within) ready)
     | inr is ↦ inl (inl (subst (λ (k : ℕ). Any (Contains (trail ++ more)) (get_or w.clauses k clause)) same (is clause)))
   ]
 
 -- a watch moves to a literal that is not false
 pub visiting_moved : (w new : Watched) (trail : List Lit) (head : ℕ) (l : Lit) (place : ℕ) → head < length trail → get_or trail head l ≡ l →
-    place < length (list_at w.lists (denial l)) → clause_at w (denial l) place < length w.pairs → WatchMoved w new trail (denial l) place →
-    Visiting w.clauses w.pairs w.lists trail head (denial l) place → Visiting w.clauses new.pairs new.lists trail head (denial l) place
-visiting_moved w new trail head l place inside at here exists moved visiting = subst (λ (ps : List Pair). Visiting w.clauses ps new.lists trail head (denial l) place) (sym moved.pairs) all where
+    place < length (list_at w.lists (negation l)) → clause_at w (negation l) place < length w.pairs → WatchMoved w new trail (negation l) place →
+    Visiting w.clauses w.pairs w.lists trail head (negation l) place → Visiting w.clauses new.pairs new.lists trail head (negation l) place
+visiting_moved w new trail head l place inside at here exists moved visiting = subst (λ (ps : List Pair). Visiting w.clauses ps new.lists trail head (negation l) place) (sym moved.pairs) all where
   c : ℕ
-  c = clause_at w (denial l) place
+  c = clause_at w (negation l) place
 
   q : Pair
   q = pair_of moved.other moved.to
@@ -139,8 +139,8 @@ visiting_moved w new trail head l place inside at here exists moved visiting = s
   free clause = elim (visiting c q clause exists) [
     | inl (inl is) ↦ inl is
     | inl (inr (a, b)) ↦ absurd (elim (moved.pair q).1 [
-      | inl (first, second) ↦ a (subst (λ (x : Lit). IsFalse (take (head + 1) trail) x) (sym first) (denied_next trail head l inside at))
-      | inr (first, second) ↦ b (subst (λ (x : Lit). IsFalse (take (head + 1) trail) x) (sym second) (denied_next trail head l inside at))
+      | inl (first, second) ↦ a (subst (λ (x : Lit). IsFalse (take (head + 1) trail) x) (sym first) (falsified_next trail head l inside at))
+      | inr (first, second) ↦ b (subst (λ (x : Lit). IsFalse (take (head + 1) trail) x) (sym second) (falsified_next trail head l inside at))
     ])
     | inr (inl is, ahead) ↦ inl is
     | inr (inr (a, b), ahead) ↦ inr (
@@ -151,11 +151,11 @@ visiting_moved w new trail head l place inside at here exists moved visiting = s
         ]
         | inr is ↦ (moved.pair q).0 is
       ]),
-      (λ h. moved.not_false (take_within trail (head + 1) (denial moved.to) h)),
+      (λ h. moved.not_false (take_within trail (head + 1) (negation moved.to) h)),
     )
   ]
 
-  all : Visiting w.clauses (set w.pairs c q) new.lists trail head (denial l) place
+  all : Visiting w.clauses (set w.pairs c q) new.lists trail head (negation l) place
   all k p clause within = elim (cases_eq k c) [
     | inl same ↦ inl (subst (λ (pair : Pair). Ready trail (take (head + 1) trail) pair (get_or w.clauses k clause)) (sym (ap (λ (i : ℕ). get_or (set w.pairs c q) i p) same ∙ get_or-set_same w.pairs c q p exists))
         (subst (λ (i : ℕ). Ready trail (take (head + 1) trail) q (get_or w.clauses i clause)) (sym same) (free clause)))
@@ -167,23 +167,23 @@ visiting_moved w new trail head l place inside at here exists moved visiting = s
           | inr (ready, ahead) ↦ inr (
             subst (λ (pair : Pair). Ready trail (take head trail) pair (get_or w.clauses k clause)) (sym pair_is) ready,
             subst (λ (cs : List ℕ). Contains (drop place cs) k) (sym moved.list)
-                (drop_swap_remove (list_at w.lists (denial l)) place c k here (get_or_default (list_at w.lists (denial l)) place c 0 here) ahead differs),
+                (drop_swap_remove (list_at w.lists (negation l)) place c k here (get_or_default (list_at w.lists (negation l)) place c 0 here) ahead differs),
           )
         ]
   ]
 
-pub visiting_end : (clauses : List (List Lit)) (pairs : List Pair) (lists : List (List ℕ)) (trail : List Lit) (head : ℕ) (denied : Lit) (place : ℕ) →
-    length (list_at lists denied) ≤ place → Visiting clauses pairs lists trail head denied place → AllReady clauses pairs trail (take (head + 1) trail)
-visiting_end clauses pairs lists trail head denied place past visiting c p clause within = elim (visiting c p clause within) [
+pub visiting_end : (clauses : List (List Lit)) (pairs : List Pair) (lists : List (List ℕ)) (trail : List Lit) (head : ℕ) (falsified : Lit) (place : ℕ) →
+    length (list_at lists falsified) ≤ place → Visiting clauses pairs lists trail head falsified place → AllReady clauses pairs trail (take (head + 1) trail)
+visiting_end clauses pairs lists trail head falsified place past visiting c p clause within = elim (visiting c p clause within) [
   | inl ready ↦ ready
-  | inr (ready, ahead) ↦ absurd (none (subst (λ (cs : List ℕ). Contains cs c) (drop_all place (list_at lists denied) past) ahead))
+  | inr (ready, ahead) ↦ absurd (none (subst (λ (cs : List ℕ). Contains cs c) (drop_all place (list_at lists falsified) past) ahead))
 ] where
   none : Contains [] c → ⊥
   none (k, inside, at) = absurd (omega arith)
 
-pub visiting_stop : (clauses : List (List Lit)) (pairs : List Pair) (lists : List (List ℕ)) (trail : List Lit) (head : ℕ) (denied : Lit) (place : ℕ) →
-    head < length trail → Visiting clauses pairs lists trail head denied place → AllReady clauses pairs trail (take head trail)
-visiting_stop clauses pairs lists trail head denied place inside visiting c p clause within = elim (visiting c p clause within) [
+pub visiting_stop : (clauses : List (List Lit)) (pairs : List Pair) (lists : List (List ℕ)) (trail : List Lit) (head : ℕ) (falsified : Lit) (place : ℕ) →
+    head < length trail → Visiting clauses pairs lists trail head falsified place → AllReady clauses pairs trail (take head trail)
+visiting_stop clauses pairs lists trail head falsified place inside visiting c p clause within = elim (visiting c p clause within) [
   | inl ready ↦ ready_fewer trail (take (head + 1) trail) (take head trail) (get_or pairs c p) (get_or clauses c clause) (λ x h. more x h) ready
   | inr (ready, ahead) ↦ ready
 ] where
@@ -227,7 +227,7 @@ keeps_moved w new trail from place exists moved = subst (λ (ps : List Pair). Ke
         | inl (first, second) ↦ b (subst (IsFalse part) (sym second) h)
         | inr (first, second) ↦ a (subst (IsFalse part) (sym first) h)
       ]),
-      (λ h. moved.not_false (within (denial moved.to) h)),
+      (λ h. moved.not_false (within (negation moved.to) h)),
     )
 
   loose : (part : List Lit) → LooseAreTrue w.clauses w.pairs part → LooseAreTrue w.clauses (set w.pairs c q) part

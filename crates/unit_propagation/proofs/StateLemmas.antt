@@ -6,7 +6,7 @@ use Rattle.std.proofs.lemmas.List.{get_or_append_left, get_or-append_right, get_
 use Rattle.std.proofs.lemmas.List.Elements.{All-push, All-contains, All-weaker, Contains-append_left, Contains-push}
 use Rattle.std.proofs.lemmas.Option.{slice_get-get_or, get_or_from_slice_get, slice_get_within}
 use Rattle.cnf_core.specs.declared.formula.Lit.{Lit}
-use Rattle.cnf_core.specs.Literal.{denial}
+use Rattle.cnf_core.specs.Literal.{negation}
 use Rattle.unit_propagation.specs.Units.{IsFalse, IsUnit}
 use Rattle.unit_propagation.specs.declared.pair.Pair.{Pair}
 use Rattle.unit_propagation.specs.declared.assignment.Cause.{Cause}
@@ -105,17 +105,17 @@ state_undone clauses pairs trail causes head place end loose s inside is_end = r
     widen (inr free) = inr free
     widen (inl (k, x, below, at, is)) = inl (k, x, below, at, take_within (take place trail) end x (subst (λ (t : List Lit). Contains t x) (sym (take-take end place trail is_end.0)) is))
 
-  none_denied : end ≡ 0 → AllReady clauses pairs (take place trail) (take end (take place trail))
-  none_denied zero_end c p clause within = inr (
-    (λ h. nothing (denial (get_or pairs c p).first) (subst (λ (n : ℕ). Contains (take n (take place trail)) (denial (get_or pairs c p).first)) zero_end h)),
-    (λ h. nothing (denial (get_or pairs c p).second) (subst (λ (n : ℕ). Contains (take n (take place trail)) (denial (get_or pairs c p).second)) zero_end h)),
+  none_falsified : end ≡ 0 → AllReady clauses pairs (take place trail) (take end (take place trail))
+  none_falsified zero_end c p clause within = inr (
+    (λ h. nothing (negation (get_or pairs c p).first) (subst (λ (n : ℕ). Contains (take n (take place trail)) (negation (get_or pairs c p).first)) zero_end h)),
+    (λ h. nothing (negation (get_or pairs c p).second) (subst (λ (n : ℕ). Contains (take n (take place trail)) (negation (get_or pairs c p).second)) zero_end h)),
   ) where
     nothing : (l : Lit) → Contains [] l → ⊥
     nothing l (k, below, at) = absurd (omega arith)
 
   ready : AllReady clauses pairs (take place trail) (take end (take place trail))
   ready = elim is_end.1 [
-    | inl zero_end ↦ none_denied zero_end
+    | inl zero_end ↦ none_falsified zero_end
     | inr ended ↦ ready_at (let size = s.sized in let below = is_end.0 in s.ends end no_cause (omega arith) (ended no_cause))
   ] where
     no_cause : Cause
@@ -272,9 +272,9 @@ continues_is old width clauses trail new causes new_causes new_width new_clauses
       decides = implies.decides sized;
     })
 
--- nothing is denied before the start
+-- nothing is falsified before the start
 pub ready_start : (trail : List Lit) (p : Pair) (clause : List Lit) → Ready trail [] p clause
-ready_start trail p clause = inr ((λ h. nothing (denial p.first) h), (λ h. nothing (denial p.second) h)) where
+ready_start trail p clause = inr ((λ h. nothing (negation p.first) h), (λ h. nothing (negation p.second) h)) where
   nothing : (l : Lit) → Contains [] l → ⊥
   nothing l (k, below, at) = absurd (omega arith)
 
@@ -286,10 +286,10 @@ state_more_free clauses clause pairs p trail causes head loose new_loose s one n
     state_more clauses clause pairs p trail causes causes head head loose new_loose s one notes refl (omega arith) s.ready (free head)
     (λ n c below is. (s.ends n c below is, free_all n)) where
       free : (n : ℕ) → Ready trail (take n trail) p clause
-      free n = inr ((λ h. first (take_within trail n (denial p.first) h)), (λ h. second (take_within trail n (denial p.second) h)))
+      free n = inr ((λ h. first (take_within trail n (negation p.first) h)), (λ h. second (take_within trail n (negation p.second) h)))
 
       free_all : (n : ℕ) → Ready (take n trail) (take n trail) p clause
-      free_all n = inr ((λ h. first (take_within trail n (denial p.first) h)), (λ h. second (take_within trail n (denial p.second) h)))
+      free_all n = inr ((λ h. first (take_within trail n (negation p.first) h)), (λ h. second (take_within trail n (negation p.second) h)))
 
 -- with one clause more, where propagation begins again
 pub state_more_anew : (clauses : List (List Lit)) (clause : List Lit) (pairs : List Pair) (p : Pair) (trail : List Lit) (causes new_causes : List Cause) (head : ℕ) (loose new_loose : List ℕ) →

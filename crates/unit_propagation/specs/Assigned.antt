@@ -1,7 +1,7 @@
 -- What an assignment stands for: the literals that were set, in order, each with its cause.
 use Rattle.std.specs.Prelude.{◌≡◌, ℕ, Bool, true, false, List, length, Contains, count_by, slice_index_or}
 use Rattle.cnf_core.specs.declared.formula.Lit.{Lit}
-use Rattle.cnf_core.specs.Literal.{denial, IsApart}
+use Rattle.cnf_core.specs.Literal.{negation, IsApart}
 use Rattle.unit_propagation.specs.Units.{IsOpen}
 use Rattle.unit_propagation.specs.declared.assignment.Truth.{Truth}
 use Rattle.unit_propagation.specs.declared.assignment.Truth.TheVariants.{True, False, Open}
@@ -15,8 +15,8 @@ pub record Assigned : Type 0 where
 
 -- how a literal stands after these were set
 abbrev pub StandsAs : List Lit → Lit → Truth → Type 0
-StandsAs trail l True = Contains trail l × ¬ Contains trail (denial l)
-StandsAs trail l False = Contains trail (denial l) × ¬ Contains trail l
+StandsAs trail l True = Contains trail l × ¬ Contains trail (negation l)
+StandsAs trail l False = Contains trail (negation l) × ¬ Contains trail l
 StandsAs trail l Open = IsOpen trail l
 
 -- the truth of a variable whose literal of this sign is true

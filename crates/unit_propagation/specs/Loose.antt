@@ -20,8 +20,8 @@ ListsLoose pairs loose =
     (c : ℕ) (p : Pair) → c < length pairs → (slice_index_or pairs c p).first ≡ (slice_index_or pairs c p).second → Contains loose c
 
 -- the clause is false, or has a true literal
-abbrev pub IsDenied : List (List Lit) → List Lit → ℕ → Type 0
-IsDenied clauses trail c = All (IsFalse trail) (slice_index_or clauses c [])
+abbrev pub IsFalsified : List (List Lit) → List Lit → ℕ → Type 0
+IsFalsified clauses trail c = All (IsFalse trail) (slice_index_or clauses c [])
 
 abbrev pub HasTrue : List (List Lit) → List Lit → ℕ → Type 0
 HasTrue clauses trail c = Any (Contains trail) (slice_index_or clauses c [])

@@ -1,7 +1,7 @@
 -- How far propagation has come, and what no clause can go on from.
 use Rattle.std.specs.Prelude.{◌<◌, ◌↔◌, ◌⊎◌, ℕ, List, All, Any, Contains, length, slice_index_or}
 use Rattle.cnf_core.specs.declared.formula.Lit.{Lit}
-use Rattle.cnf_core.specs.Literal.{denial}
+use Rattle.cnf_core.specs.Literal.{negation}
 use Rattle.cnf_core.specs.Propagation.{Sets}
 use Rattle.unit_propagation.specs.Units.{IsFalse, IsUnit}
 
@@ -19,7 +19,7 @@ IsFalseClause clauses trail c = (c < length clauses) × ((clause : List Lit) →
 
 -- each variable of the clauses is set
 abbrev pub IsTotal : List (List Lit) → List Lit → Type 0
-IsTotal clauses trail = All (λ clause. All (λ l. Contains trail l ⊎ Contains trail (denial l)) clause) clauses
+IsTotal clauses trail = All (λ clause. All (λ l. Contains trail l ⊎ Contains trail (negation l)) clause) clauses
 
 -- each clause has a literal that is set
 abbrev pub HasTrueLiterals : List (List Lit) → List Lit → Type 0

@@ -1,4 +1,4 @@
--- How far clauses were looked at: one has a true literal, or neither of its watched literals was denied so far.
+-- How far clauses were looked at: one has a true literal, or neither of its watched literals was falsified so far.
 use Rattle.std.specs.Prelude.{◌≡◌, ◌≢◌, ◌<◌, ◌+◌, ◌⊎◌, ℕ, List, true, false, Any, All, Contains, length, take, slice_set, slice_index_or, swap_remove}
 use Rattle.cnf_core.specs.declared.formula.Lit.{Lit}
 use Rattle.unit_propagation.specs.Units.{IsFalse}
@@ -8,7 +8,7 @@ use Rattle.unit_propagation.specs.Watching.{Watched, IsIndexed, IsOther, pair_of
 use Rattle.unit_propagation.specs.declared.pair.Pair.{Pair}
 use Rattle.unit_propagation.specs.declared.assignment.Cause.{Cause}
 use Rattle.unit_propagation.specs.declared.propagation.Seen.{Seen}
-use Rattle.unit_propagation.specs.declared.propagation.Seen.TheVariants.{Kept, Moved, Denied}
+use Rattle.unit_propagation.specs.declared.propagation.Seen.TheVariants.{Kept, Moved, Falsified}
 
 -- of the literals of the trail, those of `past` were looked at
 abbrev pub Ready : List Lit → List Lit → Pair → List Lit → Type 0
@@ -40,7 +40,7 @@ LooseAreTrue clauses pairs trail =
     (c : ℕ) (p : Pair) (clause : List Lit) → c < length pairs → (slice_index_or pairs c p).first ≡ (slice_index_or pairs c p).second →
     Any (Contains trail) (slice_index_or clauses c clause)
 
--- watches moved only to literals that the trail does not deny
+-- watches moved only to literals that the trail does not falsify
 pub record KeepsReady (clauses : List (List Lit)) (old new : List Pair) (trail : List Lit) : Type 0 where
   pub size : length new ≡ length old
   pub ready : (part : List Lit) → ((l : Lit) → Contains part l → Contains trail l) → AllReady clauses old part part → AllReady clauses new part part
@@ -52,11 +52,11 @@ pub record KeepsReady (clauses : List (List Lit)) (old new : List Pair) (trail :
 abbrev pub KeepsAll : Watched → Watched → List Lit → Type 0
 KeepsAll w new trail = KeepsReady w.clauses w.pairs new.pairs trail
 
--- the clause at a place of the denied literal's list
+-- the clause at a place of the falsified literal's list
 abbrev pub clause_at : Watched → Lit → ℕ → ℕ
 clause_at w l place = slice_index_or (list_at w.lists l) place 0
 
--- the watch at the denied literal moved to another that is not false
+-- the watch at the falsified literal moved to another that is not false
 pub record WatchMoved (w new : Watched) (trail : List Lit) (from : Lit) (place : ℕ) : Type 0 where
   pub other : Lit
   pub to : Lit
@@ -73,12 +73,12 @@ abbrev pub IsDone : Watched → List Lit → Lit → ℕ → Type 0
 IsDone w trail from c =
     ((p : Pair) → watches (slice_index_or w.pairs c p) from ≡ false) ⊎ ((clause : List Lit) → Any (Contains trail) (slice_index_or w.clauses c clause))
 
--- what became of the clause at a place of the denied literal's list
+-- what became of the clause at a place of the falsified literal's list
 abbrev pub IsSeen : Watched → Watched → Assigned → Assigned → Lit → ℕ → Seen → Type 0
 IsSeen w new a b from place Kept =
     (new ≡ w) × Implies w.clauses a.trail a.causes b.trail b.causes × IsDone w b.trail from (clause_at w from place)
 IsSeen w new a b from place Moved = (b ≡ a) × WatchMoved w new a.trail from place
-IsSeen w new a b from place Denied =
+IsSeen w new a b from place Falsified =
     (new ≡ w) × (b ≡ a) × ((clause : List Lit) → All (IsFalse a.trail) (slice_index_or w.clauses (clause_at w from place) clause))
 
 -- where propagation had ended each clause is ready

@@ -1,13 +1,13 @@
 -- What a clause says under literals that are true: one of its literals is false or open, or it is the unit.
 use Rattle.std.specs.Prelude.{◌≢◌, ℕ, ◌<◌, List, All, Contains}
 use Rattle.cnf_core.specs.declared.formula.Lit.{Lit}
-use Rattle.cnf_core.specs.Literal.{denial}
+use Rattle.cnf_core.specs.Literal.{negation}
 
 abbrev pub IsFalse : List Lit → Lit → Type 0
-IsFalse assigned l = Contains assigned (denial l)
+IsFalse assigned l = Contains assigned (negation l)
 
 abbrev pub IsOpen : List Lit → Lit → Type 0
-IsOpen assigned l = ¬ Contains assigned l × ¬ Contains assigned (denial l)
+IsOpen assigned l = ¬ Contains assigned l × ¬ Contains assigned (negation l)
 
 -- the literal is the only one of the clause that is not false, and it is open
 pub record IsUnit (assigned clause : List Lit) (l : Lit) : Type 0 where
@@ -27,4 +27,4 @@ pub record IsFree (assigned clause : List Lit) (other l : Lit) : Type 0 where
 
 -- no literal stands together with its negation
 abbrev pub IsConsistent : List Lit → Type 0
-IsConsistent assigned = (l : Lit) → Contains assigned l → ¬ Contains assigned (denial l)
+IsConsistent assigned = (l : Lit) → Contains assigned l → ¬ Contains assigned (negation l)

@@ -4,7 +4,7 @@ ghost use Rattle.std.specs.Prelude.{◌≡◌, ◌<◌, All, IfSome, IfNone, vec
 ghost use Rattle.std.specs.Bool.{OnTrue, OnFalse};
 ghost use Rattle.unit_propagation.specs.Units.{IsWithin};
 ghost use Rattle.unit_propagation.specs.Ready.{Implied};
-ghost use Rattle.unit_propagation.specs.Loose.{IsLoose, AreLoose, AreTrue, HasTrue, IsDenied, NotesLoose};
+ghost use Rattle.unit_propagation.specs.Loose.{IsLoose, AreLoose, AreTrue, HasTrue, IsFalsified, NotesLoose};
 ghost use Rattle.unit_propagation.specs.Propagated.{IsFalseClause};
 
 use crate::assignment::{Assignment, Cause, Truth};
@@ -17,11 +17,11 @@ pub fn set_loose(clauses: &[Clause], row: &mut Assignment, loose: &[usize]) -> O
     requires loose { AreLoose clauses.now loose.now }
     ensures width { row.new.width ≡ row.old.width }
     ensures implies { Implied clauses.now row.old row.new }
-    ensures denied { IfSome result (λ c. IsFalseClause clauses.now row.new.trail c) }
+    ensures falsified { IfSome result (λ c. IsFalseClause clauses.now row.new.trail c) }
     ensures are_true { IfNone result (AreTrue clauses.now loose.now row.new.trail) }
 {
     for number in loose {
-        if is_denied(clauses, row, *number) {
+        if is_falsified(clauses, row, *number) {
             return Some(*number);
         }
     }
@@ -29,12 +29,12 @@ pub fn set_loose(clauses: &[Clause], row: &mut Assignment, loose: &[usize]) -> O
 }
 
 /// Sets the literal of the clause, if it is open, and says whether the clause is false.
-fn is_denied(clauses: &[Clause], row: &mut Assignment, number: usize) -> bool
+fn is_falsified(clauses: &[Clause], row: &mut Assignment, number: usize) -> bool
     requires within { All (IsWithin row.old.width) clauses.now }
     requires loose { IsLoose clauses.now number }
     ensures width { row.new.width ≡ row.old.width }
     ensures implies { Implied clauses.now row.old row.new }
-    ensures denied { OnTrue result (IsDenied clauses.now row.new.trail number) }
+    ensures falsified { OnTrue result (IsFalsified clauses.now row.new.trail number) }
     ensures is_true { OnFalse result (HasTrue clauses.now row.new.trail number) }
 {
     let Some(l) = clauses[number].as_slice().first() else {

@@ -1,4 +1,4 @@
-//! Propagation along the trail: a clause whose watched literal is denied looks for another one to watch, and where
+//! Propagation along the trail: a clause whose watched literal is falsified looks for another one to watch, and where
 //! there is none it sets its other watched literal or is false.
 
 ghost use Rattle.std.specs.Prelude.{◌≡◌, ◌≢◌, ◌<◌, ◌≤◌, ◌↔◌, All, IsTrue, IfSome, IfNone, length};
@@ -11,18 +11,18 @@ use crate::assignment::{Assignment, Cause, Truth};
 use crate::watched_clauses::WatchedClauses;
 use cnf_core::Lit;
 
-/// What became of a clause whose watched literal is denied.
+/// What became of a clause whose watched literal is falsified.
 #[derive(Clone, Copy, Debug)]
 pub enum Seen {
     /// It is watched as before.
     Kept,
-    /// It watches another literal in place of the denied one.
+    /// It watches another literal in place of the falsified one.
     Moved,
-    /// All its literals are denied.
-    Denied,
+    /// All its literals are falsified.
+    Falsified,
 }
 
-/// Looks at the clauses that watch what the trail denies from the head on; the number of a false one, where there is
+/// Looks at the clauses that watch what the trail falsifies from the head on; the number of a false one, where there is
 /// one. The head moves past each literal whose clauses were all looked at.
 pub fn run(watched: &mut WatchedClauses, row: &mut Assignment, head: &mut usize) -> Option<usize>
     requires width { watched.old.width ≤ row.old.width }
@@ -38,7 +38,7 @@ pub fn run(watched: &mut WatchedClauses, row: &mut Assignment, head: &mut usize)
     ensures ready { ReadyTo watched.old.clauses watched.new.pairs row.new.trail head.new }
     ensures head { head.new ≤ length row.new.trail }
     ensures ended { IfNone result (head.new ≡ length row.new.trail) }
-    ensures denied { IfSome result (λ c. IsFalseClause watched.old.clauses row.new.trail c) }
+    ensures falsified { IfSome result (λ c. IsFalseClause watched.old.clauses row.new.trail c) }
     ensures loose { LooseAreTrue watched.old.clauses watched.new.pairs row.new.trail }
     ensures indexed { IfNone result (IsWhole watched.new) }
     ensures consistent { IfNone result (IsConsistent row.new.trail) }
@@ -52,7 +52,7 @@ pub fn run(watched: &mut WatchedClauses, row: &mut Assignment, head: &mut usize)
     None
 }
 
-/// Looks at the clauses that watch what the literal at that place denies; the number of a false one, where there is
+/// Looks at the clauses that watch what the literal at that place falsifies; the number of a false one, where there is
 /// one.
 fn visit(watched: &mut WatchedClauses, row: &mut Assignment, head: usize) -> Option<usize>
     requires width { watched.old.width ≤ row.old.width }
@@ -66,37 +66,37 @@ fn visit(watched: &mut WatchedClauses, row: &mut Assignment, head: usize) -> Opt
     ensures keeps { KeepsAll watched.old watched.new row.old.trail }
     ensures ready { ReadyTo watched.old.clauses watched.new.pairs row.new.trail head }
     ensures next { IfNone result (ReadyPast watched.old watched.new row.new.trail head) }
-    ensures denied { IfSome result (λ c. IsFalseClause watched.old.clauses row.new.trail c) }
+    ensures falsified { IfSome result (λ c. IsFalseClause watched.old.clauses row.new.trail c) }
     ensures loose { LooseAreTrue watched.old.clauses watched.new.pairs row.new.trail }
     ensures indexed { IfNone result (IsWhole watched.new) }
 {
-    let denied = row.nth(head).denied();
-    if watched.width() <= denied.var as usize {
+    let falsified = !row.nth(head);
+    if watched.width() <= falsified.var as usize {
         return None;
     }
     let mut place = 0;
-    while place < watched.count(denied) {
-        let clause = watched.nth(denied, place);
-        match step(watched, row, denied, place) {
+    while place < watched.count(falsified) {
+        let clause = watched.nth(falsified, place);
+        match step(watched, row, falsified, place) {
             Seen::Kept => place += 1,
             Seen::Moved => (),
-            Seen::Denied => return Some(clause),
+            Seen::Falsified => return Some(clause),
         }
     }
     None
 }
 
-/// Looks at the clause at that place of the denied literal's list.
-fn step(watched: &mut WatchedClauses, row: &mut Assignment, denied: Lit, place: usize) -> Seen
+/// Looks at the clause at that place of the falsified literal's list.
+fn step(watched: &mut WatchedClauses, row: &mut Assignment, falsified: Lit, place: usize) -> Seen
     requires width { watched.old.width ≤ row.old.width }
-    requires within { denied.var < watched.old.width }
-    requires inside { place < length (list_at watched.old.lists denied) }
-    requires denied { IsFalse row.old.trail denied }
-    ensures seen { IsSeen watched.old watched.new row.old row.new denied place result }
+    requires within { falsified.var < watched.old.width }
+    requires inside { place < length (list_at watched.old.lists falsified) }
+    requires falsified { IsFalse row.old.trail falsified }
+    ensures seen { IsSeen watched.old watched.new row.old row.new falsified place result }
     ensures row_width { row.new.width ≡ row.old.width }
 {
-    let number = watched.nth(denied, place);
-    let Some(other) = watched.pair(number).other(denied) else {
+    let number = watched.nth(falsified, place);
+    let Some(other) = watched.pair(number).other(falsified) else {
         return Seen::Kept;
     };
     let truth = row.value(other);
@@ -104,11 +104,11 @@ fn step(watched: &mut WatchedClauses, row: &mut Assignment, denied: Lit, place: 
         return Seen::Kept;
     }
     if let Some(to) = find_other(watched.clauses()[number].as_slice(), other, row) {
-        watched.rewatch(number, denied, place, other, to);
+        watched.rewatch(number, falsified, place, other, to);
         return Seen::Moved;
     }
     if let Truth::False = truth {
-        return Seen::Denied;
+        return Seen::Falsified;
     }
     row.set(
         other,

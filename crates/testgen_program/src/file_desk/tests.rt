@@ -88,19 +88,16 @@ fn files_hold_what_was_written(rt: &(impl Files + AllocGlobal + Abort)) -> Resul
 }
 
 /// A run over the folder as it then stands. Its test is made anew.
-fn generates(rt: &(impl Files + AllocGlobal + Abort)) -> Result<(), Fail> {
+fn generates<D: Desk>(rt: &(impl Files + AllocGlobal + Abort), desk: &mut D) -> Result<(), Fail> {
     let alloc = rt.alloc();
     let words = vec![in alloc;
         String::from_str(alloc, "gen")?,
         String::from_str(alloc, "b.p4")?,
     ]?;
-    let mut desk = FileDesk::new(alloc, rt, Vec::new(alloc), Vec::new(alloc));
-    let status = testgen(alloc, words.as_slice(), &mut desk);
+    let status = testgen(alloc, words.as_slice(), desk);
     assert_eq!(rt; status, 0);
     let test = fs::read_to_string(rt, "test_1.stf")?;
     assert_eq!(rt; test.as_str(), TEST);
-    assert_eq!(rt; desk.report.as_slice(), REPORT.as_bytes());
-    assert_eq!(rt; desk.notes.len(), 0);
     Ok(())
 }
 
@@ -115,7 +112,10 @@ fn keeps_files_of_a_folder(rt: HostRuntime) -> Result<(), Fail> {
     files_hold_what_was_written(&rt)?;
     assert_eq!(rt; desk.report.as_slice(), b"one9th".as_slice());
     assert_eq!(rt; desk.notes.as_slice(), b"5th".as_slice());
-    generates(&rt)?;
+    let mut desk = FileDesk::new(alloc, rt, Vec::new(alloc), Vec::new(alloc));
+    generates(&rt, &mut desk)?;
+    assert_eq!(rt; desk.report.as_slice(), REPORT.as_bytes());
+    assert_eq!(rt; desk.notes.len(), 0);
     fs::remove_dir_all(&rt, folder.as_str())?;
     Ok(())
 }
@@ -143,7 +143,7 @@ impl Write for Interrupted {
 #[test]
 fn counts_what_a_stream_refuses(rt: HostRuntime) -> Result<(), Fail> {
     let short = Cursor::new([0; 2]);
-    let mut desk = FileDesk::new(rt.alloc(), &rt, short, Interrupted { times_left: 3 });
+    let mut desk = FileDesk::new(rt.alloc(), rt, short, Interrupted { times_left: 3 });
     for (out, want, faults) in [
         (Out::Report, Ok(2), 0),
         (Out::Notes, Ok(3), 0),

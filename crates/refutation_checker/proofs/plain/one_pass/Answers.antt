@@ -1,4 +1,4 @@
--- A clause that is denied ends the pass, a unit makes the trail grow, and another clause goes to those that say nothing.
+-- A clause that is falsified ends the pass, a unit makes the trail grow, and another clause goes to those that say nothing.
 use Rattle.std.proofs.Common.{◌≡◌, ◌≤◌, ◌+◌, ◌++◌, ◌∷◌, [], false, List, length, length-append, take, sym, ap, subst, ◌∙◌, arith}
 use Rattle.std.specs.Prelude.{All, Contains}
 use Rattle.std.proofs.lemmas.List.{take_more, take_all}
@@ -13,13 +13,13 @@ use Rattle.refutation_checker.proofs.Fixpoint.{grew-unit}
 use Rattle.refutation_checker.proofs.plain.one_pass.Goals as goal
 use Rattle.refutation_checker.proofs.plain.one_pass.Goals.{in-Unit, in-Other}
 
-pub returns-in-Denied-clause-end : goal.returns-in-Denied-clause-end
-returns-in-Denied-clause-end c = (
+pub returns-in-Falsified-clause-end : goal.returns-in-Falsified-clause-end
+returns-in-Falsified-clause-end c = (
   c.loop-clause.clause-index,
   c.clause-item.result,
   c.loop-clause-test.true,
   sym c.clause-item.is,
-  subst (All (IsFalse c.loop-clause.row.trail)) c.as_slice.ensures c.in-Denied.ensures,
+  subst (All (IsFalse c.loop-clause.row.trail)) c.as_slice.ensures c.in-Falsified.ensures,
 )
 
 pub loop-clause-preserved : goal.loop-clause-preserved

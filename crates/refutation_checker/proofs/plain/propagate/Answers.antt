@@ -1,7 +1,7 @@
--- A denied clause is a conflict, and the last pass leaves the least closed set.
+-- A falsified clause is a conflict, and the last pass leaves the least closed set.
 use Rattle.std.proofs.Common.{◌∙◌, refl}
 use Rattle.refutation_checker.specs.Propagated.{AreSet}
-use Rattle.refutation_checker.proofs.Fixpoint.{grew-onward, are_set-decided, conflicts-denied, all_set-fixed, no_conflict-fixed}
+use Rattle.refutation_checker.proofs.Fixpoint.{grew-onward, are_set-decided, conflicts-falsified, all_set-fixed, no_conflict-fixed}
 use Rattle.refutation_checker.proofs.plain.propagate.Goals as goal
 
 pub returns-in-Conflict-clause-conflict : goal.returns-in-Conflict-clause-conflict
@@ -10,7 +10,7 @@ returns-in-Conflict-clause-conflict c =
     let decided = c.args.row.now.trail in
     let grew = grew-onward clauses decided c.loop.row.trail c.one_pass.new.row.trail c.loop.invariant.grew c.in-Conflict.ensures.grew in
     let are : AreSet clauses decided c.one_pass.new.row.trail = grew.sound decided (are_set-decided clauses decided) in
-    ((λ _. conflicts-denied clauses decided c.one_pass.new.row.trail are c.in-Conflict.ensures.end), (λ _. refl))
+    ((λ _. conflicts-falsified clauses decided c.one_pass.new.row.trail are c.in-Conflict.ensures.end), (λ _. refl))
 
 pub loop-preserved : goal.loop-preserved
 loop-preserved c = record {

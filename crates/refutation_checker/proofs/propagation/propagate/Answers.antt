@@ -7,7 +7,7 @@ use Rattle.refutation_checker.specs.ClauseStates.{IsState}
 use Rattle.refutation_checker.specs.Propagated.{AreSet}
 use Rattle.refutation_checker.specs.Waiting.{Waits}
 use Rattle.refutation_checker.specs.declared.clause_state.ClauseState.TheVariants.{Other}
-use Rattle.refutation_checker.proofs.Fixpoint.{grew-onward, are_set-decided, conflicts-denied, all_set-fixed, no_conflict-fixed}
+use Rattle.refutation_checker.proofs.Fixpoint.{grew-onward, are_set-decided, conflicts-falsified, all_set-fixed, no_conflict-fixed}
 use Rattle.refutation_checker.proofs.WaitingFacts.{waits-start, waits-next, waits-end}
 use Rattle.refutation_checker.proofs.propagation.propagate.Goals as goal
 
@@ -22,7 +22,7 @@ returns-then-visit-clause-conflict c =
     let clauses = c.args.known.now.clauses in
     let decided = c.args.row.now.trail in
     let visits = c.if-visit.ensures.visits in
-    ((λ _. conflicts-denied clauses decided c.visit.new.row.trail (visits.grew.sound decided (are_set-decided clauses decided)) visits.ends), (λ _. refl))
+    ((λ _. conflicts-falsified clauses decided c.visit.new.row.trail (visits.grew.sound decided (are_set-decided clauses decided)) visits.ends), (λ _. refl))
 
 pub loop-head-init : goal.loop-head-init
 loop-head-init c =
@@ -43,7 +43,7 @@ returns-then-visit-2-clause-conflict c =
     let decided = c.args.row.now.trail in
     let visits = c.if-visit-2.ensures.visits in
     let grew = grew-onward clauses decided c.loop-head.row.trail c.visit-in-loop-head.new.row.trail c.loop-head.invariant.grew visits.grew in
-    ((λ _. conflicts-denied clauses decided c.visit-in-loop-head.new.row.trail (grew.sound decided (are_set-decided clauses decided)) visits.ends), (λ _. refl))
+    ((λ _. conflicts-falsified clauses decided c.visit-in-loop-head.new.row.trail (grew.sound decided (are_set-decided clauses decided)) visits.ends), (λ _. refl))
 
 pub loop-head-preserved : goal.loop-head-preserved
 loop-head-preserved c =
@@ -61,7 +61,7 @@ loop-head-preserved c =
           visits.ends (head + 1) place clause (omega arith) at
           (elim (waits-next trail head clause c.nth.result c.nth.ensures.is (c.loop-head.invariant.waits place clause at)) [
             | inl waits ↦ inl waits
-            | inr stands ↦ inr (c.occurrences.ensures place clause at (subst (Contains clause) (sym c.denied-denied.ensures) stands))
+            | inr stands ↦ inr (c.occurrences.ensures place clause at (subst (Contains clause) (sym c.not-falsified.ensures) stands))
           ]);
     }
 

@@ -1,4 +1,4 @@
--- A clause that is not there, says nothing, or sets a literal is settled; one that is denied ends the visit.
+-- A clause that is not there, says nothing, or sets a literal is settled; one that is falsified ends the visit.
 use Rattle.std.proofs.Common.{◌≡◌, ℕ, true, false, ◌+◌, ◌∷◌, [], ◌++◌, List, length, get_or, take, refl, ap, sym, ◌∙◌, subst, arith, length-append}
 use Rattle.std.specs.Prelude.{All, Contains, Some, slice_get}
 use Rattle.std.proofs.lemmas.List.{take_more, take_all}
@@ -27,11 +27,11 @@ loop-place-preserved-in_default c =
           (settles-absent c.clauses-clauses.result.now (take i places) (get_or places i 0) c.args.row.now.trail c.loop-place.row.trail c.in_default.ensures.lookup.3 inv.settles);
     }
 
-pub returns-in-Denied-clause-visits : goal.returns-in-Denied-clause-visits
-returns-in-Denied-clause-visits c =
+pub returns-in-Falsified-clause-visits : goal.returns-in-Falsified-clause-visits
+returns-in-Falsified-clause-visits c =
     let clauses = c.clauses-clauses.result.now in
     let place = get_or c.args.places.now c.loop-place.place-index 0 in
-    let same = c.in-Denied.ensures.trail in
+    let same = c.in-Falsified.ensures.trail in
     subst (λ (cs : List (List Lit)). Visits cs c.args.places.now c.args.row.now.trail c.from_watches.new.row.trail true) c.clauses-clauses.ensures.are (record {
       grew = rw same c.loop-place.invariant.grew;
       longer = rw same c.loop-place.invariant.longer;
@@ -40,7 +40,7 @@ returns-in-Denied-clause-visits c =
         c.in-Some.clause.now,
         c.in-Some.ensures.lookup.3.0,
         sym c.in-Some.ensures.lookup.1,
-        subst (All (IsFalse c.from_watches.new.row.trail)) c.as_slice.ensures c.in-Denied.ensures.says,
+        subst (All (IsFalse c.from_watches.new.row.trail)) c.as_slice.ensures c.in-Falsified.ensures.says,
       );
     })
 

@@ -21,19 +21,19 @@ loop-number-init c = record {
   are_true = λ k d inside. absurd (omega arith);
 }
 
-pub is_denied-requires-clause-loose : goal.is_denied-requires-clause-loose
-is_denied-requires-clause-loose c = All-get_or (IsLoose c.args.clauses.now) c.args.loose.now c.loop-number.number-index 0 c.loop-number-test.true c.requires.loose
+pub is_falsified-requires-clause-loose : goal.is_falsified-requires-clause-loose
+is_falsified-requires-clause-loose c = All-get_or (IsLoose c.args.clauses.now) c.args.loose.now c.loop-number.number-index 0 c.loop-number-test.true c.requires.loose
 
-pub returns-then-is_denied-clause-implies : goal.returns-then-is_denied-clause-implies
-returns-then-is_denied-clause-implies c =
-    implies_then c.args.clauses.now c.args.row.now.trail c.loop-number.row.trail c.is_denied.new.row.trail c.args.row.now.causes c.loop-number.row.causes c.is_denied.new.row.causes
-    c.loop-number.invariant.implies c.if-is_denied.ensures.implies
+pub returns-then-is_falsified-clause-implies : goal.returns-then-is_falsified-clause-implies
+returns-then-is_falsified-clause-implies c =
+    implies_then c.args.clauses.now c.args.row.now.trail c.loop-number.row.trail c.is_falsified.new.row.trail c.args.row.now.causes c.loop-number.row.causes c.is_falsified.new.row.causes
+    c.loop-number.invariant.implies c.if-is_falsified.ensures.implies
 
-pub returns-then-is_denied-clause-denied : goal.returns-then-is_denied-clause-denied
-returns-then-is_denied-clause-denied c =
+pub returns-then-is_falsified-clause-falsified : goal.returns-then-is_falsified-clause-falsified
+returns-then-is_falsified-clause-falsified c =
     let n = get_or c.args.loose.now c.loop-number.number-index 0 in
     let loose = All-get_or (IsLoose c.args.clauses.now) c.args.loose.now c.loop-number.number-index 0 c.loop-number-test.true c.requires.loose in
-    (loose.0, λ clause. subst (All (IsFalse c.is_denied.new.row.trail)) (get_or_default c.args.clauses.now n [] clause loose.0) c.if-is_denied.ensures.denied)
+    (loose.0, λ clause. subst (All (IsFalse c.is_falsified.new.row.trail)) (get_or_default c.args.clauses.now n [] clause loose.0) c.if-is_falsified.ensures.falsified)
 
 pub loop-number-preserved : goal.loop-number-preserved
 loop-number-preserved c =
@@ -42,8 +42,8 @@ loop-number-preserved c =
     let i = c.loop-number.number-index in
     let n = get_or all i 0 in
     let inv = c.loop-number.invariant in
-    let after = c.if-is_denied.ensures in
-    let new = c.is_denied.new.row in
+    let after = c.if-is_falsified.ensures in
+    let new = c.is_falsified.new.row in
     let loose = All-get_or (IsLoose clauses) all i 0 c.loop-number-test.true c.requires.loose in
     record {
       width = after.width ∙ inv.width;

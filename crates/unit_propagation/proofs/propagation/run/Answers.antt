@@ -50,9 +50,9 @@ pub returns-in-Some-clause-ready : goal.returns-in-Some-clause-ready
 returns-in-Some-clause-ready c =
     subst (λ (cs : List (List Lit)). AllReady cs c.visit.new.watched.pairs c.visit.new.row.trail (take c.loop-head.head c.visit.new.row.trail)) c.loop-head.invariant.clauses c.in-Some.ensures.ready
 
-pub returns-in-Some-clause-denied : goal.returns-in-Some-clause-denied
-returns-in-Some-clause-denied c =
-    subst (λ (cs : List (List Lit)). IsFalseClause cs c.visit.new.row.trail c.in-Some.clause) c.loop-head.invariant.clauses c.in-Some.ensures.denied
+pub returns-in-Some-clause-falsified : goal.returns-in-Some-clause-falsified
+returns-in-Some-clause-falsified c =
+    subst (λ (cs : List (List Lit)). IsFalseClause cs c.visit.new.row.trail c.in-Some.clause) c.loop-head.invariant.clauses c.in-Some.ensures.falsified
 
 pub loop-head-preserved : goal.loop-head-preserved
 loop-head-preserved c =

@@ -20,11 +20,11 @@ use Rattle.unit_propagation.proofs.TrailLemmas.{implies_none, implies_one}
 use Rattle.unit_propagation.proofs.propagation.step.Goals as goal
 
 -- the other watched literal stands in the clause
-stands_other : (w : Watched) (n : ℕ) (pair : Pair) (denied other : Lit) → IsIndexed w.width w.clauses w.pairs w.lists → n < length w.clauses →
-    slice_get w.pairs n ≡ Some pair → IsOther pair denied other → (clause : List Lit) → Contains (get_or w.clauses n clause) other
-stands_other w n pair denied other h inside at is clause =
+stands_other : (w : Watched) (n : ℕ) (pair : Pair) (falsified other : Lit) → IsIndexed w.width w.clauses w.pairs w.lists → n < length w.clauses →
+    slice_get w.pairs n ≡ Some pair → IsOther pair falsified other → (clause : List Lit) → Contains (get_or w.clauses n clause) other
+stands_other w n pair falsified other h inside at is clause =
     let same = h.paired in
-    h.stands n pair clause (omega arith) other (subst (λ (p : Pair). IsTrue (watches p other)) (sym (get_or_from_slice_get w.pairs n pair pair at)) (other_other pair denied other is))
+    h.stands n pair clause (omega arith) other (subst (λ (p : Pair). IsTrue (watches p other)) (sym (get_or_from_slice_get w.pairs n pair pair at)) (other_other pair falsified other is))
 
 within_clause : (w : Watched) (n : ℕ) (l : Lit) → IsIndexed w.width w.clauses w.pairs w.lists → n < length w.clauses → Contains (get_or w.clauses n []) l → l.var < w.width
 within_clause w n l h inside stands = All-contains (λ k. k.var < w.width) (get_or w.clauses n []) l (h.within n [] inside) stands
@@ -34,8 +34,8 @@ open_from trail l Open stands a b = stands
 open_from trail l True stands a b = absurd (a refl)
 open_from trail l False stands a b = absurd (b refl)
 
-at_place : (w : Watched) (denied : Lit) (place n : ℕ) → slice_get (list_at w.lists denied) place ≡ Some n → n ≡ clause_at w denied place
-at_place w denied place n at = sym (get_or_from_slice_get (list_at w.lists denied) place n 0 at)
+at_place : (w : Watched) (falsified : Lit) (place n : ℕ) → slice_get (list_at w.lists falsified) place ≡ Some n → n ≡ clause_at w falsified place
+at_place w falsified place n at = sym (get_or_from_slice_get (list_at w.lists falsified) place n 0 at)
 
 true_in : (trail clause : List Lit) (l : Lit) → Contains clause l → Contains trail l → Any (Contains trail) clause
 true_in trail clause l (k, inside, at) is = (k, l, inside, at, is)
@@ -44,18 +44,18 @@ pub returns-in_default-clause-seen : goal.returns-in_default-clause-seen
 returns-in_default-clause-seen c =
     let w = c.args.watched.now in
     let n = c.nth-number.result in
-    let number = at_place w c.args.denied c.args.place n c.nth-number.ensures.is in (
+    let number = at_place w c.args.falsified c.args.place n c.nth-number.ensures.is in (
       refl,
       implies_none w.clauses c.args.row.now.trail c.args.row.now.causes,
-      inl (λ p. subst (λ (k : ℕ). watches (get_or w.pairs k p) c.args.denied ≡ false) number
-          (ap (λ (q : Pair). watches q c.args.denied) (get_or_from_slice_get w.pairs n c.pair.result p c.pair.ensures.is) ∙ c.in_default.ensures.not_watched)),
+      inl (λ p. subst (λ (k : ℕ). watches (get_or w.pairs k p) c.args.falsified ≡ false) number
+          (ap (λ (q : Pair). watches q c.args.falsified) (get_or_from_slice_get w.pairs n c.pair.result p c.pair.ensures.is) ∙ c.in_default.ensures.not_watched)),
     )
 
 pub value-truth-requires : goal.value-truth-requires
 value-truth-requires c =
     let w = c.args.watched.now in
     let n = c.nth-number.result in
-    let stands = stands_other w n c.pair.result c.args.denied c.in-Some.other c.pair.ensures.indexed c.nth-number.ensures.exists c.pair.ensures.is c.in-Some.ensures.watched [] in
+    let stands = stands_other w n c.pair.result c.args.falsified c.in-Some.other c.pair.ensures.indexed c.nth-number.ensures.exists c.pair.ensures.is c.in-Some.ensures.watched [] in
     let below = within_clause w n c.in-Some.other c.pair.ensures.indexed c.nth-number.ensures.exists stands in
     omega (arith, c.requires.width)
 
@@ -64,27 +64,27 @@ returns-in-True-clause-seen c =
     let w = c.args.watched.now in
     let n = c.nth-number.result in
     let trail = c.args.row.now.trail in
-    let number = at_place w c.args.denied c.args.place n c.nth-number.ensures.is in (
+    let number = at_place w c.args.falsified c.args.place n c.nth-number.ensures.is in (
       refl,
       implies_none w.clauses trail c.args.row.now.causes,
       inr (λ clause. subst (λ (k : ℕ). Any (Contains trail) (get_or w.clauses k clause)) number
           (true_in trail (get_or w.clauses n clause) c.in-Some.other
-          (stands_other w n c.pair.result c.args.denied c.in-Some.other c.pair.ensures.indexed c.nth-number.ensures.exists c.pair.ensures.is c.in-Some.ensures.watched clause) c.in-True.ensures.0)),
+          (stands_other w n c.pair.result c.args.falsified c.in-Some.other c.pair.ensures.indexed c.nth-number.ensures.exists c.pair.ensures.is c.in-Some.ensures.watched clause) c.in-True.ensures.0)),
     )
 
 -- the clause that is looked at is the one of the number
 clause_is : (cs clauses : List (List Lit)) (n : ℕ) (seen item clause : List Lit) → cs ≡ clauses → n < length clauses → seen ≡ item → item ≡ get_or cs n item → seen ≡ get_or clauses n clause
 clause_is cs clauses n seen item clause are inside same at = same ∙ at ∙ ap (λ (xs : List (List Lit)). get_or xs n item) are ∙ get_or_default clauses n item clause inside
 
-moves_watch : (w : Watched) (trail seen : List Lit) (n place : ℕ) (pair : Pair) (denied other to : Lit) → n < length w.pairs → slice_get (list_at w.lists denied) place ≡ Some n →
-    slice_get w.pairs n ≡ Some pair → IsOther pair denied other → IsFree trail seen other to → IsFalse trail denied →
-    ((clause : List Lit) → seen ≡ get_or w.clauses n clause) → MovesWatch w n denied place other to
-moves_watch w trail seen n place pair denied other to inside here at is free denied_now same = record {
+moves_watch : (w : Watched) (trail seen : List Lit) (n place : ℕ) (pair : Pair) (falsified other to : Lit) → n < length w.pairs → slice_get (list_at w.lists falsified) place ≡ Some n →
+    slice_get w.pairs n ≡ Some pair → IsOther pair falsified other → IsFree trail seen other to → IsFalse trail falsified →
+    ((clause : List Lit) → seen ≡ get_or w.clauses n clause) → MovesWatch w n falsified place other to
+moves_watch w trail seen n place pair falsified other to inside here at is free falsified_now same = record {
   here = here;
   inside = inside;
-  pair = λ p. subst (λ (q : Pair). IsOther q denied other) (sym (get_or_from_slice_get w.pairs n pair p at)) is;
+  pair = λ p. subst (λ (q : Pair). IsOther q falsified other) (sym (get_or_from_slice_get w.pairs n pair p at)) is;
   stands = λ clause. subst (λ (k : List Lit). Contains k to) (same clause) free.stands;
-  not_from = λ e. free.not_false (subst (λ (l : Lit). IsFalse trail l) (sym e) denied_now);
+  not_from = λ e. free.not_false (subst (λ (l : Lit). IsFalse trail l) (sym e) falsified_now);
   not_other = free.differs;
 }
 
@@ -98,8 +98,8 @@ rewatch-requires c =
     record {
       from_within = c.requires.within;
       to_within = within_clause w n c.in-Some-find_other.to c.pair.ensures.indexed c.nth-number.ensures.exists (subst (λ (k : List Lit). Contains k c.in-Some-find_other.to) (same []) free.stands);
-      moves = moves_watch w c.args.row.now.trail c.as_slice.result.now n c.args.place c.pair.result c.args.denied c.in-Some.other c.in-Some-find_other.to (omega (arith, c.nth-number.ensures.exists))
-          c.nth-number.ensures.is c.pair.ensures.is c.in-Some.ensures.watched free c.requires.denied same;
+      moves = moves_watch w c.args.row.now.trail c.as_slice.result.now n c.args.place c.pair.result c.args.falsified c.in-Some.other c.in-Some-find_other.to (omega (arith, c.nth-number.ensures.exists))
+          c.nth-number.ensures.is c.pair.ensures.is c.in-Some.ensures.watched free c.requires.falsified same;
     }
 
 pub returns-in-Some-find_other : goal.returns-in-Some-find_other
@@ -107,15 +107,15 @@ returns-in-Some-find_other c =
     let w = c.args.watched.now in
     let n = c.nth-number.result in
     let free = c.in-Some-find_other.ensures.found in
-    let number = at_place w c.args.denied c.args.place n c.nth-number.ensures.is in
+    let number = at_place w c.args.falsified c.args.place n c.nth-number.ensures.is in
     record {
       seen = (
         refl,
         record {
           other = c.in-Some.other;
           to = c.in-Some-find_other.to;
-          pair = λ p. subst (λ (k : ℕ). IsOther (get_or w.pairs k p) c.args.denied c.in-Some.other) number
-              (subst (λ (q : Pair). IsOther q c.args.denied c.in-Some.other) (sym (get_or_from_slice_get w.pairs n c.pair.result p c.pair.ensures.is)) c.in-Some.ensures.watched);
+          pair = λ p. subst (λ (k : ℕ). IsOther (get_or w.pairs k p) c.args.falsified c.in-Some.other) number
+              (subst (λ (q : Pair). IsOther q c.args.falsified c.in-Some.other) (sym (get_or_from_slice_get w.pairs n c.pair.result p c.pair.ensures.is)) c.in-Some.ensures.watched);
           not_other = free.differs;
           not_false = free.not_false;
           width = c.rewatch.ensures.width;
@@ -132,7 +132,7 @@ returns-in-False c =
     let w = c.args.watched.now in
     let n = c.nth-number.result in
     let trail = c.args.row.now.trail in
-    let number = at_place w c.args.denied c.args.place n c.nth-number.ensures.is in
+    let number = at_place w c.args.falsified c.args.place n c.nth-number.ensures.is in
     let same = λ (clause : List Lit). clause_is c.clauses.result.now w.clauses n c.as_slice.result.now c.index-clauses-number.result clause c.clauses.ensures.are c.nth-number.ensures.exists c.as_slice.ensures c.index-clauses-number.is in
     let all : All (IsFalse trail) c.as_slice.result.now = λ k d inside. elim (lit-cases (get_or c.as_slice.result.now k d) c.in-Some.other) [
       | inl is ↦ subst (IsFalse trail) (sym is) c.in-False.ensures.0
@@ -147,7 +147,7 @@ pub set-requires : goal.set-requires
 set-requires c =
     let w = c.args.watched.now in
     let n = c.nth-number.result in
-    let stands = stands_other w n c.pair.result c.args.denied c.in-Some.other c.pair.ensures.indexed c.nth-number.ensures.exists c.pair.ensures.is c.in-Some.ensures.watched [] in
+    let stands = stands_other w n c.pair.result c.args.falsified c.in-Some.other c.pair.ensures.indexed c.nth-number.ensures.exists c.pair.ensures.is c.in-Some.ensures.watched [] in
     let below = within_clause w n c.in-Some.other c.pair.ensures.indexed c.nth-number.ensures.exists stands in
     record {
       inside = omega (arith, c.requires.width);
@@ -161,9 +161,9 @@ returns c =
     let trail = c.args.row.now.trail in
     let causes = c.args.row.now.causes in
     let other = c.in-Some.other in
-    let number = at_place w c.args.denied c.args.place n c.nth-number.ensures.is in
+    let number = at_place w c.args.falsified c.args.place n c.nth-number.ensures.is in
     let same = λ (clause : List Lit). clause_is c.clauses.result.now w.clauses n c.as_slice.result.now c.index-clauses-number.result clause c.clauses.ensures.are c.nth-number.ensures.exists c.as_slice.ensures c.index-clauses-number.is in
-    let stands = λ (clause : List Lit). stands_other w n c.pair.result c.args.denied other c.pair.ensures.indexed c.nth-number.ensures.exists c.pair.ensures.is c.in-Some.ensures.watched clause in
+    let stands = λ (clause : List Lit). stands_other w n c.pair.result c.args.falsified other c.pair.ensures.indexed c.nth-number.ensures.exists c.pair.ensures.is c.in-Some.ensures.watched clause in
     let unit : IsUnit trail (get_or w.clauses n []) other = record {
       stands = stands [];
       is_open = open_from trail other c.value-truth.result c.value-truth.ensures c.in_default-truth.not-True c.in_default-truth-2.not-False;

@@ -13,8 +13,8 @@ returns-in-True c =
     subst (SaysWith c.args.row.now.trail c.args.self.state (c.args.l ∷ [])) (sym c.ended.ensures)
     (says-true c.args.row.now.trail c.args.l c.args.self.state c.in-True.ensures)
 
-pub returns-in-Denied : goal.returns-in-Denied
-returns-in-Denied c = rw c.in-Denied.is (says-first c.args.row.now.trail c.args.l c.in-Open.ensures)
+pub returns-in-Falsified : goal.returns-in-Falsified
+returns-in-Falsified c = rw c.in-Falsified.is (says-first c.args.row.now.trail c.args.l c.in-Open.ensures)
 
 pub returns-then-eq : goal.returns-then-eq
 returns-then-eq c =

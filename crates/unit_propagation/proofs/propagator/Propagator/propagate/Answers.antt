@@ -1,4 +1,4 @@
--- First the clauses of one literal are looked at, then those that watch what is denied; at the end the trail is the least closed set.
+-- First the clauses of one literal are looked at, then those that watch what is falsified; at the end the trail is the least closed set.
 use Rattle.std.proofs.Common.{◌≡◌, ℕ, Option, Some, None, List, length, take, refl, sym, ◌∙◌, subst, arith}
 use Rattle.std.specs.Prelude.{All, Contains, IfSome, IfNone}
 use Rattle.std.proofs.lemmas.List.{take_all, length-map}
@@ -75,7 +75,7 @@ returns-in-Some-clause-continues c =
 
 pub returns-in-Some-clause-conflict : goal.returns-in-Some-clause-conflict
 returns-in-Some-clause-conflict c =
-    subst (λ (cs : List (List Lit)). IsFalseClause cs c.set_loose.new.row.trail c.in-Some.clause) c.clauses.ensures.are c.in-Some.ensures.denied
+    subst (λ (cs : List (List Lit)). IsFalseClause cs c.set_loose.new.row.trail c.in-Some.clause) c.clauses.ensures.are c.in-Some.ensures.falsified
 
 pub returns-in-Some-clause-conflicts : goal.returns-in-Some-clause-conflicts
 returns-in-Some-clause-conflicts c =
@@ -83,10 +83,10 @@ returns-in-Some-clause-conflicts c =
     let w = inside.watched in
     let new = c.set_loose.new.row in
     let implies = subst (λ (cs : List (List Lit)). Implies cs inside.row.trail inside.row.causes new.trail new.causes) c.clauses.ensures.are c.in-Some.ensures.implies in
-    let denied = subst (λ (cs : List (List Lit)). IsFalseClause cs new.trail c.in-Some.clause) c.clauses.ensures.are c.in-Some.ensures.denied in
+    let falsified = subst (λ (cs : List (List Lit)). IsFalseClause cs new.trail c.in-Some.clause) c.clauses.ensures.are c.in-Some.ensures.falsified in
     subst (λ (p : Propagation). Conflicts p.clauses (decisions p)) c.self.view_is
     (conflicts_false w.clauses (decided inside.row.trail (reasons_of inside.row.causes)) new.trail c.in-Some.clause
-    (are_set_since w.clauses w.pairs inside.row.trail new.trail inside.row.causes new.causes inside.head inside.loose.items c.self.invariant.1 implies) denied)
+    (are_set_since w.clauses w.pairs inside.row.trail new.trail inside.row.causes new.causes inside.head inside.loose.items c.self.invariant.1 implies) falsified)
 
 pub run-requires-clause-ready : goal.run-requires-clause-ready
 run-requires-clause-ready c =
@@ -142,10 +142,10 @@ returns-clause-conflicts c =
     let end = c.run.new.row in
     let Q = Conflicts c.args.self.now.clauses (decisions c.args.self.now) in
     if_some c.run.result (λ k. IsFalseClause w.clauses end.trail k) Q
-    (λ k denied. subst (λ (p : Propagation). Conflicts p.clauses (decisions p)) c.self.view_is
+    (λ k falsified. subst (λ (p : Propagation). Conflicts p.clauses (decisions p)) c.self.view_is
     (conflicts_false w.clauses (decided inside.row.trail (reasons_of inside.row.causes)) end.trail k
-    (are_set_since w.clauses w.pairs inside.row.trail end.trail inside.row.causes end.causes inside.head inside.loose.items c.self.invariant.1 (implied c)) denied))
-    c.run.ensures.denied
+    (are_set_since w.clauses w.pairs inside.row.trail end.trail inside.row.causes end.causes inside.head inside.loose.items c.self.invariant.1 (implied c)) falsified))
+    c.run.ensures.falsified
 
 left : (c : goal.After-run) → c.run.new.head ≡ length c.run.new.row.trail → IsIndexed c.run.new.watched.width c.run.new.watched.clauses c.run.new.watched.pairs c.run.new.watched.lists →
     IsConsistent c.run.new.row.trail → All (SaysNothing c.run.new.row.trail) c.self.inside.watched.clauses

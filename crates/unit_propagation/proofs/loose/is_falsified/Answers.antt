@@ -9,7 +9,7 @@ use Rattle.unit_propagation.specs.declared.assignment.Cause.{Cause}
 use Rattle.unit_propagation.specs.Units.{IsFalse, IsUnit}
 use Rattle.unit_propagation.specs.Trail.{Implies}
 use Rattle.unit_propagation.proofs.TrailLemmas.{implies_none, implies_one}
-use Rattle.unit_propagation.proofs.loose.is_denied.Goals as goal
+use Rattle.unit_propagation.proofs.loose.is_falsified.Goals as goal
 
 -- the first literal stands in the clause
 first_stands : (clauses : List (List Lit)) (n : ℕ) (seen item : List Lit) (l : Lit) → n < length clauses → seen ≡ item → item ≡ get_or clauses n item → Some l ≡ slice_get seen 0 →
@@ -32,8 +32,8 @@ returns-in-True-clause-is_true c =
     let stands = first_stands c.args.clauses.now c.args.number c.as_slice.result.now c.index-clauses-number.result c.in-Some.l.now c.requires.loose.0 c.as_slice.ensures c.index-clauses-number.is c.in-Some.ensures.value in
     true_in c.args.row.now.trail (get_or c.args.clauses.now c.args.number []) c.in-Some.l.now stands c.in-True.ensures.0
 
-pub returns-in-False-clause-denied : goal.returns-in-False-clause-denied
-returns-in-False-clause-denied c =
+pub returns-in-False-clause-falsified : goal.returns-in-False-clause-falsified
+returns-in-False-clause-falsified c =
     let clause = get_or c.args.clauses.now c.args.number [] in
     let stands = first_stands c.args.clauses.now c.args.number c.as_slice.result.now c.index-clauses-number.result c.in-Some.l.now c.requires.loose.0 c.as_slice.ensures c.index-clauses-number.is c.in-Some.ensures.value in
     λ k d inside. subst (IsFalse c.args.row.now.trail) (c.requires.loose.1 [] c.in-Some.l.now (get_or clause k d) stands (Contains-get_or clause k d inside)) c.in-False.ensures.0

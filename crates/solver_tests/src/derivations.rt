@@ -1,11 +1,11 @@
-//! The record of the two-variable example and its broken forms. The other files try every set of full clauses over
-//! three variables, and both programs of propagation.
+//! For `refutation_checker`: the record of the two-variable example and its broken forms. The file below tries every set
+//! of full clauses over three variables.
 
-mod both_programs;
-mod full_clauses;
+mod full_sets;
 
-use crate::{CheckFault, Checker};
-use cnf_core::{Clauses, Lit, Step};
+use crate::signed::{formula, literals};
+use cnf_core::Step;
+use refutation_checker::{CheckFault, Checker};
 use sqlite_items::Items;
 use std::alloc::{AllocError, Global};
 use std::process::Abort;
@@ -28,75 +28,6 @@ struct Case {
 }
 
 const SQUARE: &[&[i32]] = &[&[1, 2], &[-1, 2], &[1, -2], &[-1, -2]];
-
-fn literals(alloc: Global, numbers: &[i32]) -> Result<Items<Lit>, AllocError> {
-    let mut lits = Items::new(alloc);
-    for number in numbers {
-        lits.push(Lit {
-            var: number.unsigned_abs(),
-            positive: *number > 0,
-        })?;
-    }
-    Ok(lits)
-}
-
-/// The numbers of the literals over three variables.
-const LITERALS: [i32; 6] = [1, -1, 2, -2, 3, -3];
-
-/// The cubes over three variables, in every order of their literals.
-fn all_cubes(alloc: Global) -> Result<Vec<Vec<i32>>, AllocError> {
-    let mut cubes = Vec::new(alloc);
-    for k in LITERALS {
-        cubes.push(Vec::from_slice(alloc, &[k])?)?;
-        for l in LITERALS {
-            if l.unsigned_abs() != k.unsigned_abs() {
-                cubes.push(Vec::from_slice(alloc, &[k, l])?)?;
-                for m in LITERALS {
-                    if m.unsigned_abs() != k.unsigned_abs()
-                        && m.unsigned_abs() != l.unsigned_abs()
-                    {
-                        cubes.push(Vec::from_slice(alloc, &[k, l, m])?)?;
-                    }
-                }
-            }
-        }
-    }
-    Ok(cubes)
-}
-
-fn formula(alloc: Global, clauses: &[&[i32]]) -> Result<Clauses, AllocError> {
-    let mut formula = Items::new(alloc);
-    for clause in clauses {
-        formula.push(literals(alloc, clause)?)?;
-    }
-    Ok(formula)
-}
-
-/// Whether the checker accepted the line.
-fn accepted(alloc: Global, checker: &mut Checker, line: Line) -> Result<bool, AllocError> {
-    let answer = match line {
-        Line::Cube(cube) => checker.accept_cube(&literals(alloc, cube)?),
-        Line::Step(clause, hints) => checker.accept(&Step {
-            clause: literals(alloc, clause)?,
-            hints: Items::from_slice(alloc, hints)?,
-        }),
-    };
-    match answer {
-        Ok(()) => Ok(true),
-        Err(CheckFault::BadStep) => Ok(false),
-        Err(CheckFault::Memory(fault)) => Err(fault),
-    }
-}
-
-fn check<R: Abort + AllocGlobal>(rt: &R, case: &Case) -> Result<(), Fail> {
-    let mut checker = Checker::new(rt.alloc(), &formula(rt.alloc(), case.clauses)?, case.inputs)?;
-    for (number, (line, right)) in case.lines.iter().enumerate() {
-        let answer = accepted(rt.alloc(), &mut checker, *line)?;
-        assert_eq!(rt; answer, *right, "{}: line {number}", case.shows);
-    }
-    assert_eq!(rt; checker.refuted(), case.refuted, "{}", case.shows);
-    Ok(())
-}
 
 const CASES: &[Case] = &[
     Case {
@@ -237,6 +168,32 @@ const CASES: &[Case] = &[
         refuted: false,
     },
 ];
+
+/// Whether the checker accepted the line.
+fn accepted(alloc: Global, checker: &mut Checker, line: Line) -> Result<bool, AllocError> {
+    let answer = match line {
+        Line::Cube(cube) => checker.accept_cube(&literals(alloc, cube)?),
+        Line::Step(clause, hints) => checker.accept(&Step {
+            clause: literals(alloc, clause)?,
+            hints: Items::from_slice(alloc, hints)?,
+        }),
+    };
+    match answer {
+        Ok(()) => Ok(true),
+        Err(CheckFault::BadStep) => Ok(false),
+        Err(CheckFault::Memory(fault)) => Err(fault),
+    }
+}
+
+fn check<R: Abort + AllocGlobal>(rt: &R, case: &Case) -> Result<(), Fail> {
+    let mut checker = Checker::new(rt.alloc(), &formula(rt.alloc(), case.clauses)?, case.inputs)?;
+    for (number, (line, right)) in case.lines.iter().enumerate() {
+        let answer = accepted(rt.alloc(), &mut checker, *line)?;
+        assert_eq!(rt; answer, *right, "{}: line {number}", case.shows);
+    }
+    assert_eq!(rt; checker.refuted(), case.refuted, "{}", case.shows);
+    Ok(())
+}
 
 #[test]
 fn accepts_what_follows_and_refuses_the_rest(rt: HostRuntime) -> Result<(), Fail> {

@@ -2,7 +2,7 @@ use Rattle.std.proofs.Common.{◌++◌, map, string_bytes, ap, ◌∙◌}
 use Rattle.p4_program.specs.Blocks.{place_of}
 use Rattle.testgen_engine.specs.Report.{counts_line, statement_lines}
 use Rattle.testgen_engine.proofs.Lists.{join_four}
-use Rattle.testgen_engine.proofs.report.write_report.Goals as goal
+use Rattle.testgen_engine.proofs.report.report_text.Goals as goal
 
 pub returns : goal.returns
 returns c =
