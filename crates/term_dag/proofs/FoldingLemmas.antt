@@ -13,10 +13,10 @@ use Rattle.term_dag.specs.Width.{node_width, width_of, Fits}
 some_same : {X : Type 0} (x y : X) → Some x ≡ Some y → x ≡ y
 some_same x y e = grind arith
 
-pub first_where_one : (v : ℕ) (a b : Term) → v ≡ 1 → a ≡ (if v == 1 then a else b)
+pub first_where_one : {X : Type 0} (v : ℕ) (a b : X) → v ≡ 1 → a ≡ (if v == 1 then a else b)
 first_where_one v a b e = grind arith
 
-pub second_where_not : (v : ℕ) (a b : Term) → (v ≡ 1 → ⊥) → b ≡ (if v == 1 then a else b)
+pub second_where_not : {X : Type 0} (v : ℕ) (a b : X) → (v ≡ 1 → ⊥) → b ≡ (if v == 1 then a else b)
 second_where_not v a b e = grind arith
 
 pub ok_along : {A E : Type 0} (r : Result A E) (P Q : A → Type 0) → ((a : A) → P a → Q a) → IfOk r P → IfOk r Q

@@ -18,6 +18,7 @@ use std::marker::Model;
 /// Terms by their numbers.
 #[derive(Drop)]
 pub struct Dag {
+    alloc: Global,
     nodes: IndexSet<Node>,
 }
 
@@ -41,8 +42,30 @@ impl Dag {
         ensures { result ≡ [] }
     {
         Dag {
+            alloc,
             nodes: IndexSet::new(alloc),
         }
+    }
+
+    /// How many terms there are.
+    pub fn len(&self) -> usize
+        ensures len { result ≡ length self.now }
+        ensures dag { IsDag self.now }
+    {
+        self.nodes.len()
+    }
+
+    /// The node that the term numbers.
+    pub fn node(&self, t: Term) -> Node
+        requires { t.number < length self.now }
+        ensures { slice_get self.now t.number ≡ Some result }
+    {
+        self.nodes.as_slice()[t.number]
+    }
+
+    /// What takes memory for the dag.
+    pub(crate) fn alloc(&self) -> Global {
+        self.alloc
     }
 
     #[tactic(auto, using(crate::proofs::FoldingLemmas::chosen_has_condition))]

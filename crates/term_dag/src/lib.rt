@@ -5,6 +5,9 @@
 #![tactic(auto)]
 
 mod dag;
+mod evaluation;
+mod input_bits;
+pub mod laws;
 mod node;
 
 pub use dag::Dag;
