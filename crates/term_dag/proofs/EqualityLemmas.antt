@@ -1,9 +1,8 @@
 -- Nodes are compared as equal exactly where they are.
-use Rattle.std.proofs.Common.{rules, ◌≡◌, ℕ, Bool, true, false, List, Some, slice_get, ◌&&◌, nat_eq, refl, sym, ap, subst, ◌∙◌, true≢false, arith}
+use Rattle.std.proofs.Common.{rules, ◌≡◌, ℕ, Bool, true, false, List, Some, slice_get, ◌&&◌, nat_eq, refl, sym, ap, ◌∙◌, true≢false, arith}
 use Rattle.std.proofs.lemmas.Bool.{and_parts, eqb-true}
 use mathlib.Core.Bool.{beq}
 use denote.Enum.Bare.{same_true, sameb}
-use Rattle.bits_core.specs.declared.number.Bits.{Bits}
 use Rattle.bits_core.specs.declared.operator.Op.{Op}
 use Rattle.bits_core.specs.contracts.operator.Op.{the_type}
 use Rattle.bits_core.proofs.NumberLaws.{same_fields}

@@ -1,5 +1,5 @@
 -- A constant stands for its number, and a choice by a constant for what its side does.
-use Rattle.std.proofs.Common.{◌≡◌, ℕ, zero, suc, Bool, true, false, List, Some, slice_get, refl, sym, ap, subst, ◌∙◌, arith}
+use Rattle.std.proofs.Common.{◌≡◌, ℕ, Bool, true, false, List, Some, refl, sym, ap, subst, ◌∙◌, arith}
 use Rattle.std.specs.Prelude.{◌==◌, if◌then◌else◌, Result, Ok, Err, IfOk}
 use Rattle.bits_core.specs.declared.number.Bits.{Bits}
 use Rattle.bits_core.specs.declared.points.Point.{Point}
@@ -52,10 +52,10 @@ module _ (nodes : List Node) where
   side_stands p c a d side b h g =
       let test : g.test ≡ h.x = constant_value p c h.x g.test h.condition g.condition in
       let is : b ≡ (if h.x.value == 1 then g.x else g.y) =
-        g.value ∙ ap (λ (n : Bits). if n.value == 1 then g.x else g.y) test in
+      g.value ∙ ap (λ (n : Bits). if n.value == 1 then g.x else g.y) test in
       subst (λ (t : Term). Values nodes p t b) (sym h.is)
       (subst (λ (n : Bits). Values nodes p (if h.x.value == 1 then a else d) n) (sym is)
-        (both_stand p (h.x.value == 1) a d g.x g.y g.first g.second))
+      (both_stand p (h.x.value == 1) a d g.x g.y g.first g.second))
 
   pub chosen_value : (node : Node) (side : Term) → IsChosen nodes node side → (p : Point) (b : Bits)
       → NodeGives (Values nodes p) p node b → Values nodes p side b

@@ -24,7 +24,7 @@ module _ (eq : Node → Node → Bool) (itself : (n : Node) → eq n n ≡ true)
   absent_at node [] none t at = grind arith
   absent_at node (x ∷ xs) none zero at =
       true≢false (sym (ap (λ (b : Bool). b || list_any (eq node) xs)
-        (ap (eq node) (some_same x node at) ∙ itself node)) ∙ none)
+      (ap (eq node) (some_same x node at) ∙ itself node)) ∙ none)
   absent_at node (x ∷ xs) none (suc t) at = absent_at node xs (rest (eq node x) (list_any (eq node) xs) none) t at
     where
       rest : (a b : Bool) → (a || b) ≡ false → b ≡ false
@@ -56,7 +56,7 @@ module _ (nodes more : List Node) (dag : IsDag nodes) (grown : IsDag (nodes ++ m
   added_value p b h =
       value_from (nodes ++ more) grown p t node b at
       (gives_along (Values nodes p) (Values (nodes ++ more) p) _
-        (λ u x k s. values_kept nodes dag p more u x s) p node b fits.operands h)
+      (λ u x k s. values_kept nodes dag p more u x s) p node b fits.operands h)
 
 -- the same where the list is what inserting the node makes
 module _ (nodes new : List Node) (dag : IsDag nodes) (node : Node) (fits : Fits nodes node)
@@ -73,11 +73,11 @@ module _ (nodes new : List Node) (dag : IsDag nodes) (node : Node) (fits : Fits 
         let e : new ≡ nodes ++ more.0 = is ∙ more.1 in
         subst (λ (l : List Node). width_of l t ≡ node_width (width_of nodes) node) (sym e)
         (added_width nodes more.0 dag (subst IsDag e new_is_dag) node fits t
-          (subst (λ (l : List Node). slice_get l t.number ≡ Some node) e at))
+        (subst (λ (l : List Node). slice_get l t.number ≡ Some node) e at))
 
     pub new_value : (p : Point) (b : Bits) → NodeGives (Values nodes p) p node b → Values new p t b
     new_value p b h =
         let e : new ≡ nodes ++ more.0 = is ∙ more.1 in
         subst (λ (l : List Node). Values l p t b) (sym e)
         (added_value nodes more.0 dag (subst IsDag e new_is_dag) node fits t
-          (subst (λ (l : List Node). slice_get l t.number ≡ Some node) e at) p b h)
+        (subst (λ (l : List Node). slice_get l t.number ≡ Some node) e at) p b h)

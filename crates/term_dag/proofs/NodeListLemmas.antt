@@ -17,6 +17,6 @@ before_or_last [] x y (suc k) e = inl e
 before_or_last (z ∷ xs) x y zero e = inl e
 before_or_last (z ∷ xs) x y (suc k) e =
     elim (before_or_last xs x y k e) [
-      inl h ↦ inl h
+      | inl h ↦ inl h
       | inr h ↦ inr (ap suc h.0, h.1)
     ]

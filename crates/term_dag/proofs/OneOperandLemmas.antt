@@ -1,5 +1,5 @@
 -- An operator of one operand has the operand's width, and ignores what stands in the place of a second.
-use Rattle.std.proofs.Common.{◌≡◌, ℕ, refl, sym, ap, ◌∙◌, arith}
+use Rattle.std.proofs.Common.{◌≡◌, ℕ, refl, ap, ◌∙◌, arith}
 use Rattle.bits_core.specs.Operator.{operator_value, result_width, shape_of}
 use Rattle.bits_core.specs.declared.number.Bits.{Bits}
 use Rattle.bits_core.specs.declared.operator.Op.{Op}

@@ -1,5 +1,5 @@
 -- A table says what its terms stand for, and goes on with what the next node gives.
-use Rattle.std.proofs.Common.{◌≡◌, ℕ, zero, suc, ◌<◌, ◌≤◌, ◌⊎◌, inl, inr, List, [], ◌∷◌, ◌++◌, Option, Some, None, length, slice_get, refl, sym, ap, subst, ◌∙◌, arith}
+use Rattle.std.proofs.Common.{◌≡◌, ℕ, zero, suc, ◌<◌, ◌⊎◌, inl, inr, List, [], ◌∷◌, ◌++◌, Option, Some, None, length, slice_get, refl, sym, ap, subst, ◌∙◌, arith}
 use Rattle.std.specs.Prelude.{IfSome, IfNone}
 use Rattle.std.proofs.lemmas.Option.{slice_get_within}
 use Rattle.bits_core.specs.declared.number.Bits.{Bits}
@@ -21,7 +21,7 @@ split zero (suc m) l = inl (omega arith)
 split (suc n) zero l = absurd (omega arith)
 split (suc n) (suc m) l =
     elim (split n m (omega arith)) [
-      inl h ↦ inl (omega arith)
+      | inl h ↦ inl (omega arith)
       | inr h ↦ inr (ap suc h)
     ]
 
@@ -57,25 +57,29 @@ module _ (nodes : List Node) (dag : IsDag nodes) (p : Point) where
               subst (Values nodes p t) (some_same x b (some_same (Some x) (Some b) h))
               (value_from nodes dag p t node x (ap (slice_get nodes) e ∙ at) s)
           stands t b None s e h = absurd (grind arith)
+
           right : (t : Term) (b : Bits) → slice_get (table ++ o ∷ []) t.number ≡ Some (Some b) → Values nodes p t b
           right t b h =
               elim (before_or_last table o (Some b) t.number h) [
-                inl k ↦ is.right t b k
+                | inl k ↦ is.right t b k
                 | inr k ↦ stands t b o some k.0 k.1
               ]
+
           given : (t : Term) (b : Bits) → t.number ≡ length table → Values nodes p t b → NodeGives (Values nodes p) p node b
           given t b e v = value_to nodes dag p t node b (ap (slice_get nodes) e ∙ at) v
+
           found : (t : Term) (b : Bits) (o : Option Bits) → IfSome o (NodeGives (Values nodes p) p node)
               → IfNone o ((b : Bits) → NodeGives (Values nodes p) p node b → ⊥)
               → t.number ≡ length table → Values nodes p t b → o ≡ Some b
           found t b (Some x) s n e v =
               ap Some (one_value nodes dag p t x b (value_from nodes dag p t node x (ap (slice_get nodes) e ∙ at) s) v)
           found t b None s n e v = absurd (n b (given t b e v))
+
           whole : (t : Term) (b : Bits) → t.number < length (table ++ o ∷ []) → Values nodes p t b
               → slice_get (table ++ o ∷ []) t.number ≡ Some (Some b)
           whole t b l v =
               elim (split t.number (length table) (subst (λ (n : ℕ). t.number < n) (length_pushed table o) l)) [
-                inl k ↦ slice_get_append table (o ∷ []) t.number k ∙ is.whole t b k v
+                | inl k ↦ slice_get_append table (o ∷ []) t.number k ∙ is.whole t b k v
                 | inr k ↦ ap (slice_get (table ++ o ∷ [])) k ∙ slice_get_last table o ∙ ap Some (found t b o some none k v)
               ]
 

@@ -1,5 +1,5 @@
 -- Values go by the operands, are one at a point, have the term's width, and stay when nodes are added.
-use Rattle.std.proofs.Common.{◌≡◌, ℕ, zero, suc, ◌<◌, ◌≤◌, Bool, true, false, List, [], ◌∷◌, ◌++◌, Option, Some, None, length, slice_get, refl, sym, ap, subst, ◌∙◌, arith}
+use Rattle.std.proofs.Common.{◌≡◌, ℕ, zero, suc, ◌<◌, ◌≤◌, Bool, true, false, List, ◌++◌, Some, length, slice_get, sym, ap, subst, ◌∙◌, arith}
 use Rattle.std.specs.Prelude.{◌==◌, if◌then◌else◌}
 use Rattle.std.proofs.lemmas.Option.{slice_get_within}
 use Rattle.bits_core.proofs.NumberLaws.{same_fields}
@@ -10,8 +10,8 @@ use Rattle.term_dag.specs.declared.node.Term.{Term}
 use Rattle.term_dag.specs.declared.node.Node.{Node}
 use Rattle.term_dag.specs.declared.node.Node.TheVariants.{Constant, Input, Read, One, Two, Slice, Extend, Choose}
 use Rattle.bits_core.specs.Number.{slice_value, extend_value}
-use Rattle.term_dag.specs.Value.{NodeGives, ChooseGives, TermGives, StandsBelow, Values}
-use Rattle.term_dag.specs.Width.{node_width, width_of, OperandsBelow, WidthsAllow, Fits, IsDag}
+use Rattle.term_dag.specs.Value.{NodeGives, ChooseGives, StandsBelow, Values}
+use Rattle.term_dag.specs.Width.{node_width, width_of, OperandsBelow, WidthsAllow, IsDag}
 use Rattle.term_dag.proofs.NodeListLemmas.{slice_get_append}
 use Rattle.term_dag.proofs.WidthLemmas.{width_of_at}
 
@@ -56,7 +56,7 @@ module _ (nodes : List Node) (dag : IsDag nodes) (p : Point) where
         node = h.node;
         at = h.at;
         gives = gives_along (StandsBelow n nodes p) (StandsBelow m nodes p) t.number
-          (λ u x k s. deeper n m u x (omega arith) s) p h.node b (dag.ordered t.number h.node h.at) h.gives;
+            (λ u x k s. deeper n m u x (omega arith) s) p h.node b (dag.ordered t.number h.node h.at) h.gives;
       }
 
   -- and need not go past the term's number
@@ -67,7 +67,7 @@ module _ (nodes : List Node) (dag : IsDag nodes) (p : Point) where
         node = h.node;
         at = h.at;
         gives = gives_along (StandsBelow n nodes p) (StandsBelow t.number nodes p) t.number
-          (λ u x k s. deeper (suc u.number) t.number u x k (enough n u x s)) p h.node b (dag.ordered t.number h.node h.at) h.gives;
+            (λ u x k s. deeper (suc u.number) t.number u x k (enough n u x s)) p h.node b (dag.ordered t.number h.node h.at) h.gives;
       }
 
   -- a term stands for what its node gives on what the operands stand for
@@ -78,7 +78,7 @@ module _ (nodes : List Node) (dag : IsDag nodes) (p : Point) where
         node = node;
         at = at;
         gives = gives_along (Values nodes p) (StandsBelow t.number nodes p) t.number
-          (λ u x k s. deeper (suc u.number) t.number u x k s) p node b (dag.ordered t.number node at) h;
+            (λ u x k s. deeper (suc u.number) t.number u x k s) p node b (dag.ordered t.number node at) h;
       }
 
   -- and for nothing else
@@ -98,7 +98,7 @@ module _ (nodes : List Node) (dag : IsDag nodes) (p : Point) where
           node = h.node;
           at = slice_get_append nodes more t.number (slice_get_within nodes t.number h.node h.at) ∙ h.at;
           gives = gives_along (StandsBelow n nodes p) (StandsBelow n (nodes ++ more) p) t.number
-            (λ u x k s. kept_below n u x s) p h.node b (dag.ordered t.number h.node h.at) h.gives;
+              (λ u x k s. kept_below n u x s) p h.node b (dag.ordered t.number h.node h.at) h.gives;
         }
 
     -- a term keeps what it stands for when nodes are added
@@ -113,7 +113,7 @@ module _ (nodes : List Node) (dag : IsDag nodes) (p : Point) where
           node = h.node;
           at = at;
           gives = gives_along (StandsBelow n (nodes ++ more) p) (StandsBelow n nodes p) t.number
-            (λ u x k s. were_below n u x (omega arith) s) p h.node b (dag.ordered t.number h.node at) h.gives;
+              (λ u x k s. were_below n u x (omega arith) s) p h.node b (dag.ordered t.number h.node at) h.gives;
         }
 
     -- and stands for nothing new

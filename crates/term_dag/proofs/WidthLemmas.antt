@@ -1,12 +1,12 @@
 -- Widths go by the operands, and stay when nodes are added.
-use Rattle.std.proofs.Common.{◌≡◌, ℕ, zero, suc, ◌<◌, ◌≤◌, ◌⊎◌, inl, inr, List, [], ◌∷◌, ◌++◌, Option, Some, None, length, slice_get, refl, sym, ap, subst, ◌∙◌, arith}
+use Rattle.std.proofs.Common.{◌≡◌, ℕ, zero, suc, ◌<◌, ◌≤◌, inl, inr, List, [], ◌∷◌, ◌++◌, Option, Some, None, length, slice_get, refl, sym, ap, subst, ◌∙◌, arith}
 use Rattle.std.proofs.lemmas.Option.{slice_get_within}
 use Rattle.bits_core.specs.Operator.{shape_of, WidthsFit, result_width}
 use Rattle.term_dag.specs.declared.node.Term.{Term}
 use Rattle.term_dag.specs.declared.node.Node.{Node}
 use Rattle.term_dag.specs.declared.node.Node.TheVariants.{Constant, Input, Read, One, Two, Slice, Extend, Choose}
 use Rattle.term_dag.specs.Width.{node_width, width_at, width_below, width_of, OperandsBelow, WidthsAllow, Fits, IsDag}
-use Rattle.term_dag.proofs.NodeListLemmas.{slice_get_append, slice_get_last, before_or_last}
+use Rattle.term_dag.proofs.NodeListLemmas.{slice_get_append, before_or_last}
 
 some_same : {X : Type 0} (x y : X) → Some x ≡ Some y → x ≡ y
 some_same x y e = grind arith
@@ -27,9 +27,11 @@ module _ (f g : Term → ℕ) (n : ℕ) (same : (t : Term) → t.number < n → 
   widths_allow_same (Input first w) o h = h
   widths_allow_same (Read read w) o h = h
   widths_allow_same (One op a) o h = h
-  widths_allow_same (Two op a b) o h =
-      (h.0, subst (λ (x : ℕ). WidthsFit (shape_of op) x (g b)) (same a o.0)
-        (subst (λ (y : ℕ). WidthsFit (shape_of op) (f a) y) (same b o.1) h.1))
+  widths_allow_same (Two op a b) o h = (
+    h.0,
+    subst (λ (x : ℕ). WidthsFit (shape_of op) x (g b)) (same a o.0)
+        (subst (λ (y : ℕ). WidthsFit (shape_of op) (f a) y) (same b o.1) h.1),
+  )
   widths_allow_same (Slice a high low) o h = (h.0, subst (λ (w : ℕ). high < w) (same a o) h.1)
   widths_allow_same (Extend a w signed) o h = h
   widths_allow_same (Choose c a b) o h = (sym (same c o.0) ∙ h.0, sym (same a o.1) ∙ h.1 ∙ same b o.2)
@@ -62,7 +64,7 @@ module _ (nodes : List Node) (dag : IsDag nodes) where
   width_of_at t node at =
       ap (width_at (width_below t.number nodes)) at
       ∙ node_width_same (width_below t.number nodes) (width_of nodes) t.number
-        (λ u l. width_enough t.number (suc u.number) u l (omega arith)) node (dag.ordered t.number node at)
+      (λ u l. width_enough t.number (suc u.number) u l (omega arith)) node (dag.ordered t.number node at)
 
   module _ (more : List Node) where
     width_below_kept : (n : ℕ) (t : Term) → t.number < length nodes → width_below n (nodes ++ more) t ≡ width_below n nodes t
@@ -70,7 +72,7 @@ module _ (nodes : List Node) (dag : IsDag nodes) where
     width_below_kept (suc n) t l =
         ap (width_at (width_below n (nodes ++ more))) (slice_get_append nodes more t.number l)
         ∙ width_at_same (width_below n (nodes ++ more)) (width_below n nodes) t.number
-          (λ u k. width_below_kept n u (omega arith)) (slice_get nodes t.number) (dag.ordered t.number)
+        (λ u k. width_below_kept n u (omega arith)) (slice_get nodes t.number) (dag.ordered t.number)
 
     -- a term keeps its width when nodes are added
     pub width_of_kept : (t : Term) → t.number < length nodes → width_of (nodes ++ more) t ≡ width_of nodes t
@@ -95,26 +97,28 @@ module _ (nodes : List Node) (dag : IsDag nodes) where
         ordered : (t : ℕ) (node : Node) → slice_get (nodes ++ new ∷ []) t ≡ Some node → OperandsBelow t node
         ordered t node at =
             elim (before_or_last nodes new node t at) [
-              inl h ↦ dag.ordered t node h
+              | inl h ↦ dag.ordered t node h
               | inr h ↦ subst (λ (x : Node). OperandsBelow t x) (some_same new node h.1)
                   (subst (λ (n : ℕ). OperandsBelow n new) (sym h.0) fits.operands)
             ]
+
         fit : (t : ℕ) (node : Node) → slice_get (nodes ++ new ∷ []) t ≡ Some node → WidthsAllow (width_of (nodes ++ new ∷ [])) node
         fit t node at =
             elim (before_or_last nodes new node t at) [
-              inl h ↦ widths_allow_kept (new ∷ []) t (omega (arith, slice_get_within nodes t node h)) node (dag.ordered t node h) (dag.fit t node h)
+              | inl h ↦ widths_allow_kept (new ∷ []) t (omega (arith, slice_get_within nodes t node h)) node (dag.ordered t node h) (dag.fit t node h)
               | inr h ↦ subst (λ (x : Node). WidthsAllow (width_of (nodes ++ new ∷ [])) x) (some_same new node h.1)
                   (widths_allow_kept (new ∷ []) (length nodes) (omega arith) new fits.operands fits.widths)
             ]
+
         distinct : (s t : ℕ) (node : Node) → slice_get (nodes ++ new ∷ []) s ≡ Some node → slice_get (nodes ++ new ∷ []) t ≡ Some node → s ≡ t
         distinct s t node p q =
             elim (before_or_last nodes new node s p) [
-              inl h ↦ elim (before_or_last nodes new node t q) [
-                inl k ↦ dag.distinct s t node h k
+              | inl h ↦ elim (before_or_last nodes new node t q) [
+                | inl k ↦ dag.distinct s t node h k
                 | inr k ↦ absurd (absent s (h ∙ sym k.1))
               ]
               | inr h ↦ elim (before_or_last nodes new node t q) [
-                inl k ↦ absurd (absent t (k ∙ sym h.1))
+                | inl k ↦ absurd (absent t (k ∙ sym h.1))
                 | inr k ↦ h.0 ∙ sym k.0
               ]
             ]

@@ -49,7 +49,11 @@ impl Dag {
                 Some(apply(op, x, y))
             }
             Node::Slice(a, high, low) => Some(slice(self.known(a, point, table)?, high, low)),
-            Node::Extend(a, width, signed) => Some(extend(self.known(a, point, table)?, width, signed)),
+            Node::Extend(a, width, signed) => Some(extend(
+                self.known(a, point, table)?,
+                width,
+                signed,
+            )),
             Node::Choose(condition, a, b) => {
                 let test = self.known(condition, point, table)?;
                 let x = self.known(a, point, table)?;
@@ -79,5 +83,9 @@ fn read_value(point: &Point, read: u32, width: u8) -> Option<Bits>
     ensures none { IfNone result ((b : Number) → ¬ ReadGives point.now read width b) }
 {
     let bits = *point.reads.get(read as usize)?;
-    if bits.width == width { Some(bits) } else { None }
+    if bits.width == width {
+        Some(bits)
+    } else {
+        None
+    }
 }

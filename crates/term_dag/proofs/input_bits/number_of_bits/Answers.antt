@@ -1,5 +1,5 @@
 -- No sum passes the type: it is the number of at most 128 bits.
-use Rattle.std.proofs.Common.{rules, ◌≡◌, ◌<◌, arith, slice_index_or, false}
+use Rattle.std.proofs.Common.{rules, slice_index_or, false}
 use mir.Val.{bool_byte}
 use Rattle.term_dag.proofs.InputBitsLemmas.{bit_is_small, room_for_bit, room_for_double}
 use Rattle.term_dag.proofs.input_bits.number_of_bits.Goals as goal

@@ -1,5 +1,4 @@
 -- The side is that of the constant.
-use Rattle.std.proofs.Common.{rules, ◌≡◌, sym, ap}
 use Rattle.term_dag.proofs.FoldingLemmas.{first_where_one, second_where_not}
 use Rattle.term_dag.proofs.dag.Dag.chosen_side.Goals as goal
 

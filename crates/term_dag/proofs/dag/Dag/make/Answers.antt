@@ -1,5 +1,4 @@
 -- A node on constants is made as the constant that it gives.
-use Rattle.std.proofs.Common.{rules, ◌≡◌}
 use Rattle.term_dag.proofs.FoldingLemmas.{ok_along}
 use Rattle.term_dag.proofs.dag.Dag.make.Goals as goal
 

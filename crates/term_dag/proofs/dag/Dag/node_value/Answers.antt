@@ -1,7 +1,7 @@
 -- A node gives what its case does on the operands' values, and nothing where an operand has none.
-use Rattle.std.proofs.Common.{rules, ◌≡◌, subst}
+use Rattle.std.proofs.Common.{subst}
 use Rattle.std.specs.Prelude.{Option, Some, None, IfNone}
-use Rattle.term_dag.specs.Value.{NodeGives, Values}
+use Rattle.term_dag.specs.Value.{Values}
 use Rattle.term_dag.specs.Width.{WidthsAllow, width_of}
 use Rattle.term_dag.proofs.FoldingLemmas.{first_where_one, second_where_not}
 use Rattle.term_dag.proofs.OneOperandLemmas.{one_gives}
@@ -46,8 +46,8 @@ returns-in_err-y-in-Choose-clause-none c =
 pub returns-in_ok-bits-in-One-clause-some : goal.returns-in_ok-bits-in-One-clause-some
 returns-in_ok-bits-in-One-clause-some c =
     rw c.in-One.is (one_gives (Values c.args.self.now c.args.point.now) c.in-One.op c.in-One.a c.in_ok-bits-in-One.bits c.apply.result
-      (subst (WidthsAllow (width_of c.args.self.now)) c.in-One.is c.requires.widths)
-      c.in_ok-bits-in-One.ensures.some c.apply.ensures.width c.apply.ensures.value)
+    (subst (WidthsAllow (width_of c.args.self.now)) c.in-One.is c.requires.widths)
+    c.in_ok-bits-in-One.ensures.some c.apply.ensures.width c.apply.ensures.value)
 
 pub returns-in_ok-y-in-Two-clause-some : goal.returns-in_ok-y-in-Two-clause-some
 returns-in_ok-y-in-Two-clause-some c =
