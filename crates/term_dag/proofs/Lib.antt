@@ -1,0 +1,9 @@
+pub mod EqualityLemmas
+pub mod FoldingLemmas
+pub mod InputBitsLemmas
+pub mod InsertLemmas
+pub mod NodeListLemmas
+pub mod OneOperandLemmas
+pub mod TableLemmas
+pub mod ValueLemmas
+pub mod WidthLemmas

@@ -1,0 +1,4 @@
+pub mod Folding
+pub mod Table
+pub mod Value
+pub mod Width

@@ -1,0 +1,5 @@
+//! Tests alone, of terms: a module for each crate over its public calls.
+#![tactic(auto)]
+
+#[cfg(test)]
+mod dag;
