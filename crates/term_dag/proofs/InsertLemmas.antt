@@ -1,5 +1,5 @@
 -- A set of nodes with one more is a dag again, and holds the node at its number.
-use Rattle.std.proofs.Common.{rules, ◌≡◌, ℕ, zero, suc, Bool, true, false, ◌||◌, List, [], ◌∷◌, ◌++◌, Some, slice_get, refl, sym, ap, subst, ◌∙◌, arith, if◌then◌else◌, true≢false}
+use Rattle.std.proofs.Common.{rules, ◌≡◌, ℕ, zero, suc, Bool, true, false, ◌||◌, List, [], ◌∷◌, ◌++◌, Some, slice_get, refl, sym, ap, subst, ◌∙◌, arith, if◌then◌else◌, true≢false, ◌<◌, length}
 use Rattle.std.specs.List.{list_any}
 use Rattle.indexmap.specs.IndexSet.{insert_key}
 use Rattle.bits_core.specs.declared.number.Bits.{Bits}
@@ -9,7 +9,7 @@ use Rattle.term_dag.specs.declared.node.Node.{Node}
 use Rattle.term_dag.specs.Value.{NodeGives, Values}
 use Rattle.term_dag.specs.Width.{node_width, width_of, Fits, IsDag}
 use Rattle.term_dag.proofs.EqualityLemmas.{are_same, itself}
-use Rattle.term_dag.proofs.WidthLemmas.{grown_is_dag, width_of_at, node_width_kept}
+use Rattle.term_dag.proofs.WidthLemmas.{grown_is_dag, width_of_at, node_width_kept, width_of_kept}
 use Rattle.term_dag.proofs.ValueLemmas.{gives_along, value_from, values_kept}
 
 some_same : {X : Type 0} (x y : X) → Some x ≡ Some y → x ≡ y
@@ -81,3 +81,16 @@ module _ (nodes new : List Node) (dag : IsDag nodes) (node : Node) (fits : Fits 
         subst (λ (l : List Node). Values l p t b) (sym e)
         (added_value nodes more.0 dag (subst IsDag e new_is_dag) node fits t
         (subst (λ (l : List Node). slice_get l t.number ≡ Some node) e at) p b h)
+
+grows : (xs ys : List Node) (n : ℕ) → n < length xs → n < length (xs ++ ys)
+grows [] ys n l = absurd (omega arith)
+grows (x ∷ xs) ys zero l = omega arith
+grows (x ∷ xs) ys (suc n) l = omega (arith, grows xs ys n (omega arith))
+
+-- an older term is one of the new list, and as wide
+pub kept_older : (old new : List Node) → IsDag old → ((more : List Node) × (new ≡ old ++ more)) → (t : Term) → t.number < length old
+    → (t.number < length new) × (width_of new t ≡ width_of old t)
+kept_older old new dag k t l = (
+  subst (λ (x : List Node). t.number < length x) (sym k.1) (grows old k.0 t.number l),
+  ap (λ (x : List Node). width_of x t) k.1 ∙ width_of_kept old dag k.0 t l,
+)

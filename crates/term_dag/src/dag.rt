@@ -1,9 +1,8 @@
 //! The dag of terms, and how a term is made.
-ghost use Rattle.std.specs.Prelude.{◌≡◌, ◌+◌, ◌++◌, ◌<◌, ℕ, List, Some, IfOk, IfSome, IfNone, OnErr, length, slice_get, ◌==◌, if◌then◌else◌};
+ghost use Rattle.std.specs.Prelude.{◌≡◌, ◌++◌, ◌<◌, List, Some, IfOk, IfSome, IfNone, OnErr, length, slice_get};
 ghost use Rattle.bits_core.specs.declared.number.Bits.{Bits as Number};
 ghost use Rattle.bits_core.specs.declared.points.Point.{Point as Place};
 ghost use Rattle.term_dag.specs.declared.node.Node.{Node as NodeValue};
-ghost use Rattle.term_dag.specs.declared.node.Node.TheVariants.{Choose};
 ghost use Rattle.term_dag.specs.declared.node.Term.{Term as TermNumber};
 ghost use Rattle.term_dag.specs.Folding.{IsConstant, IsConstantOf, IsChosen, HasConstantOperands, HasConstantCondition};
 ghost use Rattle.term_dag.specs.Value.{NodeGives, Values};
@@ -68,20 +67,25 @@ impl Dag {
         self.alloc
     }
 
-    #[tactic(auto, using(crate::proofs::FoldingLemmas::chosen_has_condition))]
     /// The term of this node. A node whose operands are constants is the constant that it gives, and a choice by a constant
     /// the side that is chosen.
+    #[tactic(auto, using(crate::proofs::FoldingLemmas::chosen_has_condition))]
     pub fn make(&mut self, node: Node) -> Result<Term, AllocError>
         requires { Fits self.old node }
         ensures keeps { (more : List NodeValue) × (self.new ≡ self.old ++ more) }
         ensures unchanged { OnErr result (self.new ≡ self.old) }
+        ensures older { (t : TermNumber) → t.number < length self.old
+            → (t.number < length self.new) × (width_of self.new t ≡ width_of self.old t) }
         ensures dag { IsDag self.new }
         ensures within { IfOk result (λ t. t.number < length self.new) }
-        ensures width { IfOk result (λ t. width_of self.new t ≡ node_width (width_of self.old) node) }
+        ensures width { IfOk result (λ t. width_of self.new t
+            ≡ node_width (width_of self.old) node) }
         ensures value { IfOk result (λ t. (p : Place) (b : Number)
             → NodeGives (Values self.old p) p node b → Values self.new p t b) }
-        ensures side { IfOk result (λ t. HasConstantCondition self.old node → IsChosen self.old node t) }
-        ensures constant { IfOk result (λ t. HasConstantOperands self.old node → IsConstant self.new t) }
+        ensures side { IfOk result (λ t. HasConstantCondition self.old node
+            → IsChosen self.old node t) }
+        ensures constant { IfOk result (λ t. HasConstantOperands self.old node
+            → IsConstant self.new t) }
         ensures node { IfOk result (λ t. ¬ HasConstantCondition self.old node
             → ¬ HasConstantOperands self.old node → slice_get self.new t.number ≡ Some node) }
     {
@@ -103,7 +107,8 @@ impl Dag {
         ensures dag { IsDag self.new }
         ensures within { IfOk result (λ t. t.number < length self.new) }
         ensures at { IfOk result (λ t. slice_get self.new t.number ≡ Some node) }
-        ensures width { IfOk result (λ t. width_of self.new t ≡ node_width (width_of self.old) node) }
+        ensures width { IfOk result (λ t. width_of self.new t
+            ≡ node_width (width_of self.old) node) }
         ensures value { IfOk result (λ t. (p : Place) (b : Number)
             → NodeGives (Values self.old p) p node b → Values self.new p t b) }
     {
@@ -116,7 +121,8 @@ impl Dag {
     /// The side that a choice by a constant takes.
     fn chosen_side(&self, node: Node) -> Option<Term>
         requires { Fits self.now node }
-        ensures width { IfSome result (λ t. width_of self.now t ≡ node_width (width_of self.now) node) }
+        ensures width { IfSome result (λ t. width_of self.now t
+            ≡ node_width (width_of self.now) node) }
         ensures value { IfSome result (λ t. (p : Place) (b : Number)
             → NodeGives (Values self.now p) p node b → Values self.now p t b) }
         ensures side { IfSome result (IsChosen self.now node) }

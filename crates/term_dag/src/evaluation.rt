@@ -16,7 +16,8 @@ impl Dag {
     pub fn value_at(&self, t: Term, point: &Point) -> Result<Option<Bits>, AllocError>
         requires { t.number < length self.now }
         ensures some { IfOk result (λ r. IfSome r (Values self.now point.now t)) }
-        ensures none { IfOk result (λ r. IfNone r ((b : Number) → ¬ Values self.now point.now t b)) }
+        ensures none { IfOk result (λ r. IfNone r ((b : Number)
+            → ¬ Values self.now point.now t b)) }
     {
         let _ = self.len();
         let mut table = Vec::new(self.alloc());
@@ -33,7 +34,8 @@ impl Dag {
         requires operands { OperandsBelow (length table.now.items) node }
         requires widths { WidthsAllow (width_of self.now) node }
         ensures some { IfSome result (NodeGives (Values self.now point.now) point.now node) }
-        ensures none { IfNone result ((b : Number) → ¬ NodeGives (Values self.now point.now) point.now node b) }
+        ensures none { IfNone result ((b : Number)
+            → ¬ NodeGives (Values self.now point.now) point.now node b) }
     {
         match node {
             Node::Constant(bits) => Some(bits),
