@@ -10,6 +10,6 @@ same_fields a b p q =
       width = p i;
       value = q i;
       some_bit = is_prop→PathP (λ j. 1 ≤ p j) (λ j. le_prop) a.some_bit b.some_bit i;
-      at_most_128 = is_prop→PathP (λ j. p j ≤ 128) (λ j. le_prop) a.at_most_128 b.at_most_128 i;
+      at_most_widest = is_prop→PathP (λ j. p j ≤ 128) (λ j. le_prop) a.at_most_widest b.at_most_widest i;
       fits = is_prop→PathP (λ j. q j < 2 ^ p j) (λ j. le_prop) a.fits b.fits i;
     }

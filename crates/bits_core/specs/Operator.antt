@@ -1,6 +1,7 @@
 -- The operators on numbers of fixed width: what they take, and what they give. A number stands here as its width and its
 -- value. Each part of the table names the section of the P4-16 language specification that it restates.
 use Rattle.std.specs.Prelude.{ℕ, ◌+◌, ◌-◌, ◌*◌, ◌/◌, ◌%◌, ◌^◌, ◌≤◌, ◌≡◌, ⊤, min, pos, ◌+ℤ◌, ◌-ℤ◌, ◌==◌, Bool, false, nat_lt, nat_le, int_lt, int_le, bit_and, bit_or, bit_xor, if◌then◌else◌}
+use Rattle.bits_core.specs.declared.number.TheConstants.{MAX_WIDTH}
 use Rattle.std.specs.Int.{saturate_to_bits, int_div_euclid}
 use Rattle.bits_core.specs.declared.operator.Op.{Op}
 use Rattle.bits_core.specs.declared.operator.Op.TheVariants.{Add, Sub, Mul, AddSatU, SubSatU, AddSatS, SubSatS, And, Or, Xor, Not, Neg, Shl, ShrU, ShrS, Cat, Eq, LtU, LeU, LtS, LeS}
@@ -42,7 +43,7 @@ abbrev pub WidthsFit : OpShape → ℕ → ℕ → Type 0
 WidthsFit One w v = ⊤
 WidthsFit Same w v = w ≡ v
 WidthsFit Shift w v = ⊤
-WidthsFit Join w v = w + v ≤ 128
+WidthsFit Join w v = w + v ≤ MAX_WIDTH
 WidthsFit Test w v = w ≡ v
 
 -- the width of the result

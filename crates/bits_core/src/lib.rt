@@ -33,7 +33,7 @@ mod shifts;
 mod sign;
 
 pub use evaluate::apply;
-pub use number::Bits;
+pub use number::{Bits, MAX_WIDTH};
 pub use operator::{OPERATORS, Op, OpRow, OpShape, Table};
 pub use parts::{extend, slice};
 pub use points::{BitsList, Point};

@@ -1,5 +1,6 @@
 //! Slices, changes of width, and joins.
 ghost use Rattle.std.specs.Prelude.{◌≡◌, ◌+◌, ◌-◌, ◌<◌, ◌≤◌};
+ghost use Rattle.bits_core.specs.declared.number.TheConstants.{MAX_WIDTH};
 ghost use Rattle.bits_core.specs.declared.operator.Op.TheVariants.{Cat};
 ghost use Rattle.bits_core.specs.Number.{slice_value, extend_value};
 ghost use Rattle.bits_core.specs.Operator.{operator_value};
@@ -24,7 +25,7 @@ pub fn slice(a: Bits, high: u8, low: u8) -> Bits
 /// `a` cut to its lowest `width` bits, or widened: by zeros, or where `signed` by copies of its sign bit.
 pub fn extend(a: Bits, width: u8, signed: bool) -> Bits
     requires some_bit { 1 ≤ width }
-    requires at_most_128 { width ≤ 128 }
+    requires at_most_widest { width ≤ MAX_WIDTH }
     ensures width { result.width ≡ width }
     ensures value { result.value ≡ extend_value signed a.width a.value width }
 {
@@ -37,7 +38,7 @@ pub fn extend(a: Bits, width: u8, signed: bool) -> Bits
 }
 
 pub(crate) fn concatenate(a: Bits, b: Bits) -> Bits
-    requires { a.width + b.width ≤ 128 }
+    requires { a.width + b.width ≤ MAX_WIDTH }
     ensures width { result.width ≡ a.width + b.width }
     ensures value { result.value ≡ operator_value Cat a.width a.value b.width b.value }
 {

@@ -1,5 +1,6 @@
 //! The rows that shift. The amount may be any number up to 2^128 - 1, the type's own shifts want one below 128.
 ghost use Rattle.std.specs.Prelude.{◌≡◌, ◌/◌, ◌^◌, ◌<◌, ◌≤◌, min};
+ghost use Rattle.bits_core.specs.declared.number.TheConstants.{MAX_WIDTH};
 ghost use Rattle.bits_core.specs.declared.operator.Op.TheVariants.{Shl, ShrU, ShrS};
 ghost use Rattle.bits_core.specs.Operator.{operator_value};
 
@@ -50,7 +51,7 @@ pub(crate) fn shift_right_signed(a: Bits, b: Bits) -> Bits
 
 /// `value`, a number of `width` bits, over a power of two.
 fn quotient(value: u128, width: u8, amount: u128) -> u128
-    requires at_most_128 { width ≤ 128 }
+    requires at_most_widest { width ≤ MAX_WIDTH }
     requires fits { value < 2 ^ width }
     ensures { result ≡ value / 2 ^ min amount width }
 {

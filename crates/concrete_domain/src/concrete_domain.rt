@@ -1,5 +1,6 @@
 //! Values that stand for themselves.
 ghost use Rattle.std.specs.Prelude.{◌≡◌, List, ◌+◌, ◌-◌, ◌<◌, ◌≤◌, ◌&&◌, ◌||◌, not, Some, IsOkAnd, slice_get, if◌then◌else◌};
+ghost use Rattle.bits_core.specs.declared.number.TheConstants.{MAX_WIDTH};
 ghost use Rattle.bits_core.specs.Number.{slice_value, extend_value};
 ghost use Rattle.bits_core.specs.Operator.{WidthsFit, shape_of, result_width, operator_value, test_value};
 ghost use Rattle.bits_core.specs.declared.number.Bits.{Bits as Number};
@@ -95,7 +96,7 @@ impl<'a> Domain for ConcreteDomain<'a> {
 
     fn extend(&mut self, a: &Bits, width: u8, signed: bool) -> Result<Bits, AllocError>
         requires some_bit { 1 ≤ width }
-        requires at_most_128 { width ≤ 128 }
+        requires at_most_widest { width ≤ MAX_WIDTH }
         ensures width { IsOkAnd result (λ v. v.width ≡ width) }
         ensures value { IsOkAnd result (λ v. v.value
             ≡ extend_value signed a.now.width a.now.value width) }
@@ -149,7 +150,7 @@ impl<'a> Domain for ConcreteDomain<'a> {
         Ok(f)
     }
 
-    ghost widths_are_those_of_bits = { λ d v known. (v.some_bit, v.at_most_128) };
+    ghost widths_are_those_of_bits = { λ d v known. (v.some_bit, v.at_most_widest) };
 
     ghost numbers_fit = { λ d v p x known spoken stands.
         subst (λ n. n < 2 ^ v.width) stands v.fits };

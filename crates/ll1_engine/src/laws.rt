@@ -21,10 +21,10 @@ pub fn derived_lists_have_trees()
 /// Sets that are closed under the rules of nullable, FIRST and FOLLOW hold what is nullable, in FIRST and in FOLLOW. So
 /// where rows are apart by such sets, they meet the conditions.
 pub fn closed_sets_hold_the_least()
-    ensures nullable { (g : List Row) (nullable : ℕ → Bool) (first follow : ℕ → ℕ → Bool) (xs : List ℕ) →
-        AreClosed g nullable first follow → Nullable g xs → IsTrue (all_in nullable xs) }
-    ensures first { (g : List Row) (nullable : ℕ → Bool) (first follow : ℕ → ℕ → Bool) (xs : List ℕ) →
-        (t : ℕ) → AreClosed g nullable first follow → BeginsWith g xs t →
+    ensures nullable { (g : List Row) (nullable : ℕ → Bool) (first follow : ℕ → ℕ → Bool) →
+        (xs : List ℕ) → AreClosed g nullable first follow → Nullable g xs → IsTrue (all_in nullable xs) }
+    ensures first { (g : List Row) (nullable : ℕ → Bool) (first follow : ℕ → ℕ → Bool) →
+        (xs : List ℕ) (t : ℕ) → AreClosed g nullable first follow → BeginsWith g xs t →
         IsTrue (begins_in (first t) nullable xs) }
     ensures follow { (g : List Row) (nullable : ℕ → Bool) (first follow : ℕ → ℕ → Bool) (x t : ℕ) →
         AreClosed g nullable first follow → InFollow g x (Some t) → IsTrue (follow t x) }

@@ -116,7 +116,7 @@ module _ (a b : Tainted) (m s z t u place : ℕ) (width : a.number.width ≡ b.n
   product_settled is fits i j k l at by zero other none below under =
       ⊎_elim
       (λ (within : at < a.number.width).
-      let small : at < 128 = omega (arith, a.number.at_most_128) in
+      let small : at < 128 = omega (arith, a.number.at_most_widest) in
       let by_first = enough at i j s z small below (as_many a.mask.value s i first (λ h lt. settled_unmasked a i h by lt))
       (as_many (greatest_of b) z j zeros (λ h lt. zero_bits b j h zero lt)) in
       let by_second = enough at k l t u small under (as_many b.mask.value t k second (λ h lt. settled_unmasked b k h other lt))

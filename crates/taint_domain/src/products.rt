@@ -1,6 +1,7 @@
 //! Which bits of products may differ, so far as zeros at the end tell. Where the lowest masked place of one operand is i, and
 //! each run has j zeros at the end of the other, no run changes the product below place i + j by the first operand.
 ghost use Rattle.std.specs.Prelude.{◌≡◌, ◌≢◌, ℕ, ◌+◌, ◌<◌, ◌≤◌};
+ghost use Rattle.bits_core.specs.declared.number.TheConstants.{MAX_WIDTH};
 ghost use Rattle.std.specs.Int.{bit_at};
 ghost use Rattle.bits_core.specs.Operator.{operator_value};
 ghost use Rattle.bits_core.specs.declared.operator.Op.TheVariants.{Mul};
@@ -36,7 +37,7 @@ fn lowest_place(bits: Bits) -> u32
     ensures below { (place : ℕ) → place < result → bit_at bits.value place ≡ 0 }
     ensures lowest { bits.value ≢ 0 → bit_at bits.value result ≡ 1 }
     ensures none { bits.value ≡ 0 → result ≡ 128 }
-    ensures at_most { result ≤ 128 }
+    ensures at_most { result ≤ MAX_WIDTH }
 {
     if bits.value == 0 {
         PLACES
@@ -48,7 +49,7 @@ fn lowest_place(bits: Bits) -> u32
 /// Each bit from the place on.
 fn from_place(width: u8, place: u32) -> Bits
     requires some_bit { 1 ≤ width }
-    requires at_most_128 { width ≤ 128 }
+    requires at_most_widest { width ≤ MAX_WIDTH }
     requires place { place ≤ 256 }
     ensures width { result.width ≡ width }
     ensures below { (i : ℕ) → i < place → bit_at result.value i ≡ 0 }

@@ -1,5 +1,6 @@
 //! Numbers with a mask of bits that a run may change, as a domain.
 ghost use Rattle.std.specs.Prelude.{◌≡◌, ◌+◌, ◌-◌, ◌<◌, ◌≤◌, ◌^◌, ◌&&◌, ◌||◌, ◌↔◌, not, false, IsTrue, IsOkAnd, if◌then◌else◌};
+ghost use Rattle.bits_core.specs.declared.number.TheConstants.{MAX_WIDTH};
 ghost use Rattle.bits_core.specs.Number.{slice_value, extend_value};
 ghost use Rattle.bits_core.specs.Operator.{WidthsFit, shape_of, result_width, operator_value, test_value};
 ghost use Rattle.bits_core.specs.declared.operator.OpShape.TheVariants.{One, Test};
@@ -58,7 +59,7 @@ impl Domain for TaintDomain {
 
     fn unspecified(&mut self, _read: u32, width: u8) -> Result<Tainted, AllocError>
         requires some_bit { 1 ≤ width }
-        requires at_most_128 { width ≤ 128 }
+        requires at_most_widest { width ≤ MAX_WIDTH }
         ensures width { IsOkAnd result (λ v. v.number.width ≡ width) }
         ensures number { IsOkAnd result (λ v. v.number.value ≡ 0) }
         ensures mask { IsOkAnd result (λ v. v.mask.value ≡ 2 ^ width - 1) }
@@ -109,7 +110,7 @@ impl Domain for TaintDomain {
 
     fn extend(&mut self, a: &Tainted, width: u8, signed: bool) -> Result<Tainted, AllocError>
         requires some_bit { 1 ≤ width }
-        requires at_most_128 { width ≤ 128 }
+        requires at_most_widest { width ≤ MAX_WIDTH }
         ensures width { IsOkAnd result (λ v. v.number.width ≡ width) }
         ensures number { IsOkAnd result (λ v. v.number.value
             ≡ extend_value signed a.now.number.width a.now.number.value width) }
@@ -186,7 +187,7 @@ impl Domain for TaintDomain {
         Ok(TaintFlag::fixed(f))
     }
 
-    ghost widths_are_those_of_bits = { λ d v known. (v.number.some_bit, v.number.at_most_128) };
+    ghost widths_are_those_of_bits = { λ d v known. (v.number.some_bit, v.number.at_most_widest) };
 
     ghost numbers_fit = { λ d v p x known spoken stands. stands.may.fits };
 }

@@ -1,5 +1,6 @@
 //! What the domain's values are, and the ends of what they may be.
 ghost use Rattle.std.specs.Prelude.{◌≡◌, ◌-◌, ◌^◌, ◌≤◌, IsTrue, ◌↔◌, bit_and, bit_or, bit_xor};
+ghost use Rattle.bits_core.specs.declared.number.TheConstants.{MAX_WIDTH};
 
 use bits_core::{Bits, Op, apply};
 
@@ -91,7 +92,7 @@ fn complement(bits: Bits) -> Bits
 
 pub(crate) fn no_bit(width: u8) -> Bits
     requires some_bit { 1 ≤ width }
-    requires at_most_128 { width ≤ 128 }
+    requires at_most_widest { width ≤ MAX_WIDTH }
     ensures width { result.width ≡ width }
     ensures value { result.value ≡ 0 }
 {
@@ -100,7 +101,7 @@ pub(crate) fn no_bit(width: u8) -> Bits
 
 pub(crate) fn every_bit(width: u8) -> Bits
     requires some_bit { 1 ≤ width }
-    requires at_most_128 { width ≤ 128 }
+    requires at_most_widest { width ≤ MAX_WIDTH }
     ensures width { result.width ≡ width }
     ensures value { result.value ≡ 2 ^ width - 1 }
 {

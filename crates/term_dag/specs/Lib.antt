@@ -1,4 +1,9 @@
 pub mod Folding
+pub mod Made
+pub mod Marks
+pub mod Mention
+pub mod Substitute
+pub mod Substitution
 pub mod Table
 pub mod Value
 pub mod Width

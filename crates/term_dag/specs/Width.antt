@@ -1,5 +1,6 @@
 -- How many bits a term has, which nodes fit a dag, and what a list of nodes meets that is one.
 use Rattle.std.specs.Prelude.{◌≡◌, ◌≢◌, ℕ, zero, suc, ◌+◌, ◌-◌, ◌<◌, ◌≤◌, ⊤, List, Option, Some, None, length, slice_get}
+use Rattle.bits_core.specs.declared.number.TheConstants.{MAX_WIDTH}
 use Rattle.bits_core.specs.Operator.{shape_of, WidthsFit, result_width}
 use Rattle.bits_core.specs.declared.operator.OpShape.TheVariants.{One as OneOperand}
 use Rattle.term_dag.specs.declared.node.Term.{Term}
@@ -44,13 +45,13 @@ OperandsBelow n (Choose c a b) = (c.number < n) × (a.number < n) × (b.number <
 -- the widths of the operands, and those that the node names, are such as the node may have
 abbrev pub WidthsAllow : (Term → ℕ) → Node → Type 0
 WidthsAllow width (Constant c) = ⊤
-WidthsAllow width (Input first w) = (1 ≤ w) × (w ≤ 128)
-WidthsAllow width (Read read w) = (1 ≤ w) × (w ≤ 128)
+WidthsAllow width (Input first w) = (1 ≤ w) × (w ≤ MAX_WIDTH)
+WidthsAllow width (Read read w) = (1 ≤ w) × (w ≤ MAX_WIDTH)
 WidthsAllow width (One op a) = shape_of op ≡ OneOperand
 WidthsAllow width (Two op a b) =
     (shape_of op ≢ OneOperand) × WidthsFit (shape_of op) (width a) (width b)
 WidthsAllow width (Slice a high low) = (low ≤ high) × (high < width a)
-WidthsAllow width (Extend a w signed) = (1 ≤ w) × (w ≤ 128)
+WidthsAllow width (Extend a w signed) = (1 ≤ w) × (w ≤ MAX_WIDTH)
 WidthsAllow width (Choose c a b) = (width c ≡ 1) × (width a ≡ width b)
 
 -- the node's operands are terms of the dag, and its widths are right

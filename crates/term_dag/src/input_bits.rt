@@ -1,5 +1,6 @@
 //! The number of some of a point's bits.
 ghost use Rattle.std.specs.Prelude.{◌≡◌, ◌+◌, ◌<◌, ◌≤◌, IfSome, IfNone, length, reverse};
+ghost use Rattle.bits_core.specs.declared.number.TheConstants.{MAX_WIDTH};
 ghost use Rattle.bits_core.specs.BitList.{number_of};
 ghost use Rattle.term_dag.specs.Value.{InputGives};
 
@@ -8,7 +9,7 @@ use bits_core::{Bits, Point};
 /// The number of `width` of the point's input bits from `first` on, where it has them.
 pub(crate) fn input_value(point: &Point, first: u32, width: u8) -> Option<Bits>
     requires some_bit { 1 ≤ width }
-    requires at_most_128 { width ≤ 128 }
+    requires at_most_widest { width ≤ MAX_WIDTH }
     ensures some { IfSome result (InputGives point.now first width) }
     ensures none { IfNone result (length point.now.inputs < first + width) }
 {
@@ -19,7 +20,7 @@ pub(crate) fn input_value(point: &Point, first: u32, width: u8) -> Option<Bits>
 
 /// The number with these bits, the first most significant.
 fn number_of_bits(bits: &[bool]) -> u128
-    requires { length bits.now ≤ 128 }
+    requires { length bits.now ≤ MAX_WIDTH }
     ensures { result ≡ number_of (reverse bits.now) }
 {
     let mut number = 0;

@@ -6,9 +6,13 @@
 
 mod dag;
 mod evaluation;
+mod fixed;
 mod input_bits;
 pub mod laws;
+mod marks;
 mod node;
+mod substitution;
 
 pub use dag::Dag;
+pub use fixed::Fixed;
 pub use node::{Node, Term};

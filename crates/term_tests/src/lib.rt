@@ -3,3 +3,9 @@
 
 #[cfg(test)]
 mod dag;
+#[cfg(test)]
+mod points;
+#[cfg(test)]
+mod substitution;
+#[cfg(test)]
+mod symbolic;

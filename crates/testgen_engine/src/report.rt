@@ -67,7 +67,8 @@ fn push_statements(
 ) -> Result<(), AllocError>
     requires numbers { map number_of statements.now ≡ numbers_from 1 (length statements.now) }
     requires verdicts { length statements.now ≡ length verdicts.now }
-    ensures { Appends text.old text.new result (statement_lines 1 (map place_of statements.now) verdicts.now) }
+    ensures { Appends text.old text.new result
+        (statement_lines 1 (map place_of statements.now) verdicts.now) }
 {
     for (index, statement) in statements.iter().enumerate() {
         push_statement(text, statement.number, statement.place, verdicts[index])?;

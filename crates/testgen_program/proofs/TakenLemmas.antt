@@ -6,7 +6,8 @@ use Rattle.std.proofs.lemmas.List.Elements.{filter-append}
 use Rattle.std.proofs.lemmas.Bool.Decides.{Decides-eqb}
 use Rattle.tg_base.specs.declared.desk.Out.{Out}
 use Rattle.tg_base.specs.declared.desk.Out.TheVariants.{Report, Proofs, Test, Notes}
-use Rattle.testgen_program.specs.Taken.{is_same, bytes_for}
+use Rattle.testgen_engine.specs.Outputs.{is_same}
+use Rattle.testgen_program.specs.Taken.{bytes_for}
 
 same_self : (out : Out) → is_same out out ≡ true
 same_self Report = refl

@@ -1,15 +1,8 @@
 -- What each output has taken: the bytes of the history that are that output's.
-use Rattle.std.specs.Prelude.{ℕ, Bool, true, false, List, map, filter, nat_eq}
+use Rattle.std.specs.Prelude.{ℕ, List, map, filter}
 use Rattle.tg_base.specs.declared.desk.Out.{Out}
-use Rattle.tg_base.specs.declared.desk.Out.TheVariants.{Report, Proofs, Test, Notes}
+use Rattle.testgen_engine.specs.Outputs.{is_same}
 use Rattle.testgen_program.specs.declared.taken.Taken.{Taken}
-
-abbrev pub is_same : Out → Out → Bool
-is_same Report Report = true
-is_same Proofs Proofs = true
-is_same (Test a) (Test b) = nat_eq a b
-is_same Notes Notes = true
-is_same out other = false
 
 -- the bytes of an output among pairs of an output and a byte
 abbrev pub bytes_for : Out → List (Out × ℕ) → List ℕ

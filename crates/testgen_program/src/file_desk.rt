@@ -75,8 +75,8 @@ impl<R: Files, W: Write, N: Write> FileDesk<R, W, N> {
         ensures gained { IsTrue (has_own_file out) → IfOk result (λ count. IfSome self.new.made.kept
             (λ now. HasGained R.File.contents now.file (take count piece.now))) }
         ensures appended { IsTrue (has_own_file out) → IfSome self.old.made.kept (λ before.
-            before.out ≡ out → IsSomeAnd self.new.made.kept (λ now. WriteAppends (R.File.contents before.file)
-            (R.File.contents now.file) result piece.now)) }
+            before.out ≡ out → IsSomeAnd self.new.made.kept (λ now.
+            WriteAppends (R.File.contents before.file) (R.File.contents now.file) result piece.now)) }
         ensures kept_stays { has_own_file out ≡ false → self.new.made.kept ≡ self.old.made.kept }
         ensures source_stays { self.new.source ≡ self.old.source }
         ensures history_stays { self.new.history ≡ self.old.history }
@@ -188,8 +188,8 @@ impl<R: Files + Drop, W: Write + Drop, N: Write + Drop> Desk for FileDesk<R, W, 
         ensures gained { IsTrue (has_own_file out) → IfOk result (λ count. IfSome self.new.made.kept
             (λ now. HasGained R.File.contents now.file (take count piece.now))) }
         ensures appended { IsTrue (has_own_file out) → IfSome self.old.made.kept (λ before.
-            before.out ≡ out → IsSomeAnd self.new.made.kept (λ now. WriteAppends (R.File.contents before.file)
-            (R.File.contents now.file) result piece.now)) }
+            before.out ≡ out → IsSomeAnd self.new.made.kept (λ now.
+            WriteAppends (R.File.contents before.file) (R.File.contents now.file) result piece.now)) }
         ensures kept_stays { has_own_file out ≡ false → self.new.made.kept ≡ self.old.made.kept }
 
         ensures faults { HasCause (moment_at self.old.history false).write_faults
@@ -199,7 +199,8 @@ impl<R: Files + Drop, W: Write + Drop, N: Write + Drop> Desk for FileDesk<R, W, 
         ensures out_stays { OnErr result ((moment_at self.new.history false).outputs out
             ≡ (moment_at self.old.history false).outputs out) }
         ensures others_stay { (other : Out) → other ≢ out
-            → (moment_at self.new.history false).outputs other ≡ (moment_at self.old.history false).outputs other }
+            → (moment_at self.new.history false).outputs other
+            ≡ (moment_at self.old.history false).outputs other }
         ensures stays { KeepsReading (moment_at self.old.history (is_some self.old.source))
             (moment_at self.new.history (is_some self.new.source)) }
     {

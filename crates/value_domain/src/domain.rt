@@ -1,5 +1,6 @@
 //! The operations of a domain of values, and what their results stand for.
 ghost use Rattle.std.specs.Prelude.{◌≡◌, ◌≢◌, ℕ, ◌+◌, ◌-◌, ◌<◌, ◌≤◌, ◌^◌, ◌&&◌, ◌||◌, Bool, not, Some, IfOk, slice_get, if◌then◌else◌};
+ghost use Rattle.bits_core.specs.declared.number.TheConstants.{MAX_WIDTH};
 ghost use Rattle.bits_core.specs.Number.{slice_value, extend_value};
 ghost use Rattle.bits_core.specs.Operator.{WidthsFit, shape_of, result_width, operator_value, test_value};
 ghost use Rattle.bits_core.specs.declared.number.Bits.{Bits as Number};
@@ -38,7 +39,7 @@ pub trait Domain {
     fn unspecified(&mut self, read: u32, width: u8) -> Result<Self::Val, AllocError>
         requires offered { (meaning self.old).offers read width }
         requires some_bit { 1 ≤ width }
-        requires at_most_128 { width ≤ 128 }
+        requires at_most_widest { width ≤ MAX_WIDTH }
         ensures has { IfOk result (λ v. (meaning self.new).has v) }
         ensures width { IfOk result (λ v. (meaning self.new).width_of v ≡ width) }
         ensures value { IfOk result (λ v. (p : Point) (b : Number) → (meaning self.old).speaks_of p
@@ -91,7 +92,7 @@ pub trait Domain {
     fn extend(&mut self, a: &Self::Val, width: u8, signed: bool) -> Result<Self::Val, AllocError>
         requires operand { (meaning self.old).has a.now }
         requires some_bit { 1 ≤ width }
-        requires at_most_128 { width ≤ 128 }
+        requires at_most_widest { width ≤ MAX_WIDTH }
         ensures has { IfOk result (λ v. (meaning self.new).has v) }
         ensures width { IfOk result (λ v. (meaning self.new).width_of v ≡ width) }
         ensures value { IfOk result (λ v. (p : Point) (x : ℕ) → (meaning self.old).speaks_of p
@@ -171,7 +172,7 @@ pub trait Domain {
 
     /// A value has 1 to 128 bits.
     ghost widths_are_those_of_bits: { (d : Self) (v : Self.Val) → (meaning d).has v
-        → (1 ≤ (meaning d).width_of v) × ((meaning d).width_of v ≤ 128) };
+        → (1 ≤ (meaning d).width_of v) × ((meaning d).width_of v ≤ MAX_WIDTH) };
 
     /// A value stands for numbers of its width.
     ghost numbers_fit: { (d : Self) (v : Self.Val) (p : Point) (x : ℕ) → (meaning d).has v

@@ -4,5 +4,5 @@ use Rattle.bits_core.proofs.arithmetic.subtract.Goals as goal
 
 pub returns-clause-value : goal.returns-clause-value
 returns-clause-value c =
-    c.cut.ensures ∙ wrapped_sub c.args.a.width 128 c.args.a.value c.args.b.value c.args.a.at_most_128
-    (le_wider c.args.b.value c.args.b.width 128 c.args.b.fits c.args.b.at_most_128)
+    c.cut.ensures ∙ wrapped_sub c.args.a.width 128 c.args.a.value c.args.b.value c.args.a.at_most_widest
+    (le_wider c.args.b.value c.args.b.width 128 c.args.b.fits c.args.b.at_most_widest)

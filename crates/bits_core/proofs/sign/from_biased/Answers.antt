@@ -4,7 +4,7 @@ use Rattle.bits_core.proofs.sign.from_biased.Goals as goal
 use Rattle.bits_core.proofs.sign.from_biased.Goals.{then-biased-half, else-biased-half}
 
 pub overflow_add-value : goal.overflow_add-value
-overflow_add-value c = record { fits = low_fits c.args.width c.args.biased c.half-half.result c.requires.some_bit c.requires.at_most_128 c.half-half.ensures c.if-biased-half.true }
+overflow_add-value c = record { fits = low_fits c.args.width c.args.biased c.half-half.result c.requires.some_bit c.requires.at_most_widest c.half-half.ensures c.if-biased-half.true }
 
 pub returns-clause-value : goal.returns-clause-value
 returns-clause-value c =
