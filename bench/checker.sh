@@ -9,11 +9,12 @@ scratch=${1:-$(mktemp -d)}
 [ $# -ge 1 ] || trap 'rm -rf "$scratch"' EXIT
 mkdir -p "$scratch/crates"
 cp "$root/HANDLES" "$scratch/"
-cp -r "$root/crates/cnf_core" "$root/crates/refutation_checker" "$scratch/crates/"
+cp -r "$root/crates/cnf_core" "$root/crates/unit_propagation" "$root/crates/refutation_checker" "$scratch/crates/"
 rm -rf "$scratch"/crates/*/out
 cat > "$scratch/crates.txt" <<'TXT'
 cnf_core: sqlite_items
-refutation_checker: cnf_core sqlite_items thiserror
+unit_propagation: cnf_core sqlite_items
+refutation_checker: unit_propagation cnf_core sqlite_items thiserror
 checker_bench: cnf_core refutation_checker sqlite_items anyhow
 TXT
 cd "$scratch"

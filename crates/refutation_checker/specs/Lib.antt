@@ -1,12 +1,9 @@
 pub mod Derivation
 pub mod Hints
 pub mod Acceptance
-pub mod Assigned
-pub mod ClauseStates
-pub mod Propagated
+pub mod Deciding
 pub mod Cubes
 pub mod Variables
+pub mod Lines
 pub mod Checked
-pub mod KnownClauses
-pub mod Occurrences
-pub mod Waiting
+pub mod AcceptedCubes

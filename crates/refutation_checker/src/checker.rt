@@ -1,21 +1,23 @@
 //! The checker: a formula with what was derived from it and accepted.
 
-ghost use Rattle.std.specs.Prelude.{◌≡◌, ◌≢◌, ◌↔◌, [], Err, IsTrue, IfOk, OnOk, OnErr};
+ghost use Rattle.std.specs.Prelude.{◌≡◌, ◌≢◌, ◌↔◌, ◌<◌, ◌≤◌, [], Err, IsTrue, All, IfOk, OnOk, OnErr};
 ghost use Rattle.cnf_core.specs.Truth.{IsUnsatisfiable};
 ghost use Rattle.cnf_core.specs.declared.derivation.Derived.TheVariants.{Cube as CubeLine, Step as StepLine};
-ghost use Rattle.refutation_checker.specs.Acceptance.{FollowsByHints, IsLeastConflict, MayFollow, IsAccepted, IsEmptyStep, HasEmptyStep};
+ghost use Rattle.refutation_checker.specs.Acceptance.{FollowsByHints, IsLeastConflict, MayFollow, IsAccepted, HasEmptyStep};
 ghost use Rattle.refutation_checker.specs.Derivation.{known, extended};
+ghost use Rattle.refutation_checker.specs.Lines.{line_of};
 
-use crate::assignment::Assignment;
-use crate::clause_database::ClauseDatabase;
-use crate::copies::{copy, copy_step, line_clause};
+use crate::copies::{copy, copy_hints, negations};
 use crate::cube::is_least_conflict;
+use crate::evidence::{Evidence, is_empty_step, lines};
 use crate::hints::follows;
-use crate::variables::declared_variables;
-use cnf_core::{Clauses, Cube, Derived, Step};
+use crate::root::{root_of, settle};
+use crate::variables::{declared_variables, highest_variable};
+use cnf_core::{Clause, Clauses, Cube, Lit, Step, Steps};
 use std::alloc::{AllocError, Global};
 use std::marker::Model;
 use thiserror::Error;
+use unit_propagation::{Assignment, Propagator};
 
 /// Why a step or a cube was not accepted.
 #[derive(Debug, Drop, Error)]
@@ -27,16 +29,18 @@ pub enum CheckFault {
     Memory(AllocError),
 }
 
-/// A formula and the steps and cubes that were accepted, each after those before it.
+/// A formula and the steps and cubes that were accepted, each after those before it. The root has their clauses, and set
+/// what follows from them under no decision, unless that conflicts.
 #[derive(Drop)]
 pub struct Checker {
     alloc: Global,
     inputs: u32,
     given: usize,
-    known: ClauseDatabase,
-    derived: Vec<Derived>,
+    root: Propagator,
+    conflict: bool,
+    evidence: Vec<Evidence>,
     declared: Vec<bool>,
-    row: Assignment,
+    hinted: Assignment,
     refuted: bool,
 }
 
@@ -54,24 +58,28 @@ impl Model for Checker {
 
 impl Checker {
     /// A checker of the formula with nothing derived. Variables 1 to `inputs` are those that cubes may
-    /// decide. The row that propagation works on is taken here.
+    /// decide.
     pub fn new(alloc: Global, clauses: &Clauses, inputs: u32) -> Result<Checker, AllocError>
         ensures inputs { IfOk result (λ c. c.inputs ≡ inputs) }
         ensures clauses { IfOk result (λ c. c.clauses ≡ clauses.now) }
         ensures derived { IfOk result (λ c. c.derived ≡ []) }
     {
         let clauses = clauses.as_slice();
-        let known = ClauseDatabase::of(alloc, clauses, inputs)?;
-        let declared = declared_variables(alloc, known.clauses(), inputs, known.width())?;
-        let row = Assignment::new(alloc, known.width(), clauses.len())?;
+        let width = highest_variable(clauses, inputs) as usize + 1;
+        let declared = declared_variables(alloc, clauses, inputs, width)?;
+        let mut hinted = Assignment::new(alloc);
+        hinted.grow(width)?;
+        let mut root = root_of(alloc, clauses, width)?;
+        let conflict = settle(&mut root, false);
         Ok(Checker {
             alloc,
             inputs,
             given: clauses.len(),
-            known,
-            derived: Vec::new(alloc),
+            root,
+            conflict,
+            evidence: Vec::new(alloc),
             declared,
-            row,
+            hinted,
             refuted: false,
         })
     }
@@ -83,7 +91,7 @@ impl Checker {
         ensures accepted { OnOk result (self.new ≡ extended self.old (StepLine step.now)) }
         ensures kept { OnErr result (self.new ≡ self.old) }
     {
-        if !follows(&self.known, &mut self.row, &self.declared, step) {
+        if !follows(self.root.clauses(), &mut self.hinted, &self.declared, step) {
             return Err(CheckFault::BadStep);
         }
         self.add_step(step).map_err(CheckFault::Memory)
@@ -98,7 +106,7 @@ impl Checker {
         ensures accepted { OnOk result (self.new ≡ extended self.old (CubeLine cube.now)) }
         ensures kept { OnErr result (self.new ≡ self.old) }
     {
-        if !is_least_conflict(&self.known, &mut self.row, self.inputs, cube.as_slice()) {
+        if !self.is_least_conflict(cube.as_slice()) {
             return Err(CheckFault::BadStep);
         }
         self.add_cube(cube).map_err(CheckFault::Memory)
@@ -113,14 +121,33 @@ impl Checker {
         self.refuted
     }
 
+    /// The accepted lines, in order.
+    pub fn into_derived(self) -> Result<Steps, AllocError>
+        ensures lines { IfOk result (λ lines. lines ≡ self.derived) }
+        ensures accepted { IsAccepted self }
+    {
+        let clauses = self.root.clauses();
+        lines(self.alloc, &clauses[self.given..], self.evidence.as_slice())
+    }
+
+    fn is_least_conflict(&mut self, cube: &[Lit]) -> bool
+        ensures answer { IsTrue result ↔ IsLeastConflict self.old.inputs (known self.old) cube.now }
+        ensures kept { self.new ≡ self.old }
+    {
+        if self.conflict {
+            return false;
+        }
+        is_least_conflict(&mut self.root, self.inputs, cube)
+    }
+
     fn add_step(&mut self, step: &Step) -> Result<(), AllocError>
         requires { FollowsByHints self.old step.now }
         ensures added { OnOk result (self.new ≡ extended self.old (StepLine step.now)) }
         ensures kept { OnErr result (self.new ≡ self.old) }
     {
-        let line = copy_step(self.alloc, step)?;
-        self.make_room()?;
-        self.add(Derived::Step(line))
+        let clause = copy(self.alloc, &step.clause)?;
+        let hints = copy_hints(self.alloc, &step.hints)?;
+        self.add(clause, Evidence::Hints(hints))
     }
 
     fn add_cube(&mut self, cube: &Cube) -> Result<(), AllocError>
@@ -128,42 +155,23 @@ impl Checker {
         ensures added { OnOk result (self.new ≡ extended self.old (CubeLine cube.now)) }
         ensures kept { OnErr result (self.new ≡ self.old) }
     {
-        let line = copy(self.alloc, cube)?;
-        self.make_room()?;
-        self.add(Derived::Cube(line))
+        let clause = negations(self.alloc, cube)?;
+        self.add(clause, Evidence::Propagation)
     }
 
-    /// Takes what propagation needs for one more clause.
-    fn make_room(&mut self) -> Result<(), AllocError>
-        ensures { self.new ≡ self.old }
-    {
-        self.row.add_clause()
-    }
-
-    fn add(&mut self, line: Derived) -> Result<(), AllocError>
-        requires { MayFollow self.old line }
-        ensures added { OnOk result (self.new ≡ extended self.old line) }
+    fn add(&mut self, clause: Clause, evidence: Evidence) -> Result<(), AllocError>
+        requires { MayFollow self.old (line_of clause evidence) }
+        ensures added { OnOk result (self.new ≡ extended self.old (line_of clause evidence)) }
         ensures kept { OnErr result (self.new ≡ self.old) }
     {
-        let refutes = is_empty_step(&line);
-        let clause = line_clause(self.alloc, &line)?;
-        self.derived.reserve(1)?;
-        self.known.add(clause)?;
-        if let Err(_) = self.derived.push(line) {
-            unreachable!()
-        }
+        let refutes = is_empty_step(&clause, &evidence);
+        self.evidence.reserve(1)?;
+        self.root.add_clause(clause)?;
+        self.evidence.push_reserved(evidence);
+        self.conflict = settle(&mut self.root, self.conflict);
         if refutes {
             self.refuted = true;
         }
         Ok(())
-    }
-}
-
-fn is_empty_step(line: &Derived) -> bool
-    ensures { IsTrue result ↔ IsEmptyStep line.now }
-{
-    match line {
-        Derived::Cube(_) => false,
-        Derived::Step(step) => step.clause.is_empty(),
     }
 }

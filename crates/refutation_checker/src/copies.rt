@@ -1,10 +1,9 @@
-//! Copies of literals, clauses and steps.
+//! Copies of literals, hints and clauses.
 
 ghost use Rattle.std.specs.Prelude.{◌≡◌, IfOk, map};
 ghost use Rattle.cnf_core.specs.Literal.{negation};
-ghost use Rattle.refutation_checker.specs.Derivation.{clause_of};
 
-use cnf_core::{Clause, Cube, Derived, Lit, Step};
+use cnf_core::{Clause, Cube, Hints, Lit};
 use sqlite_items::Items;
 use std::alloc::{AllocError, Global};
 
@@ -14,27 +13,14 @@ pub fn copy(alloc: Global, lits: &Items<Lit>) -> Result<Items<Lit>, AllocError>
     Items::from_slice(alloc, lits.as_slice())
 }
 
-pub fn copy_step(alloc: Global, step: &Step) -> Result<Step, AllocError>
-    ensures { IfOk result (λ copied. copied ≡ step.now) }
+pub fn copy_hints(alloc: Global, hints: &Hints) -> Result<Hints, AllocError>
+    ensures { IfOk result (λ copied. copied ≡ hints.now) }
 {
-    Ok(Step {
-        clause: copy(alloc, &step.clause)?,
-        hints: Items::from_slice(alloc, step.hints.as_slice())?,
-    })
-}
-
-/// The clause that the line counts as.
-pub fn line_clause(alloc: Global, line: &Derived) -> Result<Clause, AllocError>
-    ensures { IfOk result (λ clause. clause ≡ clause_of line.now) }
-{
-    match line {
-        Derived::Cube(cube) => negations(alloc, cube),
-        Derived::Step(step) => copy(alloc, &step.clause),
-    }
+    Items::from_slice(alloc, hints.as_slice())
 }
 
 /// The clause of the negations of the cube's literals.
-fn negations(alloc: Global, cube: &Cube) -> Result<Clause, AllocError>
+pub fn negations(alloc: Global, cube: &Cube) -> Result<Clause, AllocError>
     ensures { IfOk result (λ clause. clause ≡ map negation cube.now) }
 {
     let mut clause = Vec::with_capacity(alloc, cube.len())?;

@@ -1,42 +1,32 @@
-//! Whether a cube conflicts, and needs each of its literals to do so.
+//! Whether a cube conflicts, and needs each of its literals to do so. The literals are decided one after the other; before
+//! each it is tried whether the others conflict without it, from what those before it set.
 
-ghost use Rattle.std.specs.Prelude.{◌≡◌, ◌<◌, [], ◌↔◌, IsTrue, All, length, remove};
-ghost use Rattle.cnf_core.specs.Propagation.{Conflicts};
-ghost use Rattle.refutation_checker.specs.Acceptance.{IsLeastConflict, IsEachNeeded};
-ghost use Rattle.refutation_checker.specs.Assigned.{IsWithin};
-ghost use Rattle.refutation_checker.specs.Cubes.{IsLastOpen};
-ghost use Rattle.cnf_core.specs.Literal.{IsApart};
+ghost use Rattle.std.specs.Prelude.{◌≡◌, ◌<◌, ◌+◌, ◌↔◌, IsTrue, All, length};
+ghost use Rattle.std.specs.Bool.{OnTrue, OnFalse};
+ghost use Rattle.unit_propagation.specs.Units.{IsWithin};
+ghost use Rattle.refutation_checker.specs.Acceptance.{IsLeastConflict};
+ghost use Rattle.refutation_checker.specs.Deciding.{Extends};
+ghost use Rattle.refutation_checker.specs.Cubes.{IsRoot, IsReached, IsLeast};
 ghost use Rattle.refutation_checker.specs.Derivation.{IsInput};
 
-use crate::assignment::{Assignment, Truth};
-use crate::clause_database::ClauseDatabase;
-use crate::decide::decide;
-use crate::propagation::propagate;
+use crate::decide::{Decision, conflicts_with, decide_next};
 use cnf_core::Lit;
+use unit_propagation::Propagator;
 
-/// Whether the cube may follow the known clauses. The row is as before.
-pub fn is_least_conflict(
-    known: &ClauseDatabase,
-    row: &mut Assignment,
-    inputs: u32,
-    cube: &[Lit],
-) -> bool
-    requires width { row.old.width ≡ known.now.width }
-    requires nothing_set { row.old.trail ≡ [] }
-    requires inputs { inputs < known.now.width }
-    ensures answer { IsTrue result ↔ IsLeastConflict inputs known.now.clauses cube.now }
-    ensures row_stays { row.new ≡ row.old }
+/// Whether the cube may follow the clauses. The root is as before.
+pub fn is_least_conflict(root: &mut Propagator, inputs: u32, cube: &[Lit]) -> bool
+    requires inputs { inputs < root.old.width }
+    requires root { IsRoot root.old }
+    ensures answer { IsTrue result ↔ IsLeastConflict inputs root.old.clauses cube.now }
+    ensures stays { root.new ≡ root.old }
 {
     if !are_inputs(cube, inputs) {
         return false;
     }
-    if !conflicts(known, row, cube) {
-        return false;
-    }
-    if !is_last_open(known, row, cube) {
-        return false;
-    }
-    is_each_needed(known, row, cube)
+    let level = root.count();
+    let answer = is_least(root, cube);
+    root.undo_to(level);
+    answer
 }
 
 fn are_inputs(cube: &[Lit], inputs: u32) -> bool
@@ -45,74 +35,37 @@ fn are_inputs(cube: &[Lit], inputs: u32) -> bool
     cube.iter().all(|l| 0 < l.var && l.var <= inputs)
 }
 
-fn conflicts(known: &ClauseDatabase, row: &mut Assignment, cube: &[Lit]) -> bool
-    requires width { row.old.width ≡ known.now.width }
-    requires nothing_set { row.old.trail ≡ [] }
-    requires cube_within { IsWithin known.now.width cube.now }
-    ensures answer { IsTrue result ↔ (IsApart cube.now × Conflicts known.now.clauses cube.now) }
-    ensures row_stays { row.new ≡ row.old }
-{
-    if !decide(row, cube) {
-        row.clear();
-        return false;
-    }
-    let answer = propagate(known, row);
-    row.clear();
-    answer
-}
-
-fn is_last_open(known: &ClauseDatabase, row: &mut Assignment, cube: &[Lit]) -> bool
-    requires width { row.old.width ≡ known.now.width }
-    requires nothing_set { row.old.trail ≡ [] }
-    requires cube_within { IsWithin known.now.width cube.now }
-    requires apart { IsApart cube.now }
-    ensures answer { IsTrue result ↔ IsLastOpen known.now.clauses cube.now }
-    ensures row_stays { row.new ≡ row.old }
+fn is_least(root: &mut Propagator, cube: &[Lit]) -> bool
+    requires within { IsWithin root.old.width cube.now }
+    requires root { IsRoot root.old }
+    ensures extends { Extends root.old root.new }
+    ensures answer { IsTrue result ↔ IsLeast root.old.clauses cube.now }
 {
     let Some((last, rest)) = cube.split_last() else {
         return false;
     };
-    let decided = decide(row, rest);
-    prove!(decided);
-    if propagate(known, row) {
-        row.clear();
-        return false;
-    }
-    let truth = row.value(*last);
-    row.clear();
-    matches!(truth, Truth::Open)
-}
-
-fn is_each_needed(known: &ClauseDatabase, row: &mut Assignment, cube: &[Lit]) -> bool
-    requires width { row.old.width ≡ known.now.width }
-    requires nothing_set { row.old.trail ≡ [] }
-    requires cube_within { IsWithin known.now.width cube.now }
-    requires apart { IsApart cube.now }
-    ensures answer { IsTrue result ↔ IsEachNeeded known.now.clauses cube.now }
-    ensures row_stays { row.new ≡ row.old }
-{
-    for i in 0..cube.len() {
-        if conflicts_without(known, row, cube, i) {
+    for place in 0..rest.len() {
+        if !goes_on(root, cube, place) {
             return false;
         }
     }
-    true
+    matches!(decide_next(root, *last), Decision::Conflict)
 }
 
-fn conflicts_without(known: &ClauseDatabase, row: &mut Assignment, cube: &[Lit], i: usize) -> bool
-    requires width { row.old.width ≡ known.now.width }
-    requires nothing_set { row.old.trail ≡ [] }
-    requires cube_within { IsWithin known.now.width cube.now }
-    requires apart { IsApart cube.now }
-    requires place { i < length cube.now }
-    ensures answer { IsTrue result ↔ Conflicts known.now.clauses (remove cube.now i) }
-    ensures row_stays { row.new ≡ row.old }
+/// Decides the literal at the place, which is not the last, where the others do not conflict without it.
+fn goes_on(root: &mut Propagator, cube: &[Lit], place: usize) -> bool
+    requires within { IsWithin root.old.width cube.now }
+    requires place { place + 1 < length cube.now }
+    requires reached { IsReached root.old cube.now place }
+    ensures extends { Extends root.old root.new }
+    ensures reached { OnTrue result (IsReached root.new cube.now (place + 1)) }
+    ensures refused { OnFalse result (¬ IsLeast root.old.clauses cube.now) }
 {
-    let before = decide(row, &cube[..i]);
-    prove!(before);
-    let after = decide(row, &cube[i + 1..]);
-    prove!(after);
-    let answer = propagate(known, row);
-    row.clear();
-    answer
+    let start = root.count();
+    let conflicts = conflicts_with(root, &cube[place + 1..]);
+    root.undo_to(start);
+    if conflicts {
+        return false;
+    }
+    matches!(decide_next(root, cube[place]), Decision::Full)
 }

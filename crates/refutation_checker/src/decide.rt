@@ -1,59 +1,73 @@
-//! Deciding literals: they are set in order, as long as no variable stands twice.
+//! Deciding literals of a cube: one, with what follows from it, or several at once.
 
-ghost use Rattle.std.specs.Prelude.{◌≡◌, ◌<◌, ◌≤◌, ◌++◌, ◌∷◌, [], ◌↔◌, IsTrue, length, map};
-ghost use Rattle.std.specs.Bool.{OnTrue};
-ghost use Rattle.cnf_core.specs.Literal.{negation, IsApart};
-ghost use Rattle.refutation_checker.specs.Assigned.{IsWithin};
+ghost use Rattle.std.specs.Prelude.{◌≡◌, ◌<◌, ◌++◌, ◌⊎◌, IsTrue};
+ghost use Rattle.std.specs.Bool.{OnTrue, OnFalse};
+ghost use Rattle.cnf_core.specs.Propagation.{Conflicts};
+ghost use Rattle.unit_propagation.specs.Units.{IsWithin};
+ghost use Rattle.unit_propagation.specs.Propagation.{decisions, IsFull};
+ghost use Rattle.refutation_checker.specs.Deciding.{Decides, Extends, HasSet};
 
-use crate::assignment::{Assignment, Truth};
 use cnf_core::Lit;
+use unit_propagation::{Propagator, Truth};
 
-/// Sets the literals; false where a variable stands twice.
-pub fn decide(row: &mut Assignment, lits: &[Lit]) -> bool
-    requires within { IsWithin row.old.width lits.now }
-    requires apart { IsApart row.old.trail }
-    requires fits { length row.old.trail ≤ row.old.width }
-    ensures answer { IsTrue result ↔ IsApart (row.old.trail ++ lits.now) }
-    ensures trail { OnTrue result (row.new.trail ≡ row.old.trail ++ lits.now) }
-    ensures width { row.new.width ≡ row.old.width }
-    ensures fits { length row.new.trail ≤ row.new.width }
-{
-    for l in lits {
-        if !decide_one(row, *l) {
-            return false;
-        }
-    }
-    true
+/// What came of deciding a literal.
+#[derive(Clone, Copy, Debug)]
+pub enum Decision {
+    /// Its variable was set before.
+    Refused,
+    /// Propagation conflicts.
+    Conflict,
+    /// Propagation does not conflict, and what follows is set.
+    Full,
 }
 
-/// Sets the literals of the clause false; false where a variable stands twice.
-pub fn falsify(row: &mut Assignment, clause: &[Lit]) -> bool
-    requires within { IsWithin row.old.width clause.now }
-    requires nothing_set { row.old.trail ≡ [] }
-    ensures answer { IsTrue result ↔ IsApart clause.now }
-    ensures trail { OnTrue result (row.new.trail ≡ map negation clause.now) }
-    ensures width { row.new.width ≡ row.old.width }
+/// Decides the literal, if it is open, and propagates.
+pub fn decide_next(root: &mut Propagator, l: Lit) -> Decision
+    requires within { l.var < root.old.width }
+    requires full { IsFull root.old root.old }
+    ensures extends { Extends root.old root.new }
+    ensures decides { Decides root.old root.new l result }
 {
-    for l in clause {
-        if !decide_one(row, !*l) {
-            return false;
-        }
+    match root.value(l) {
+        Truth::Open => (),
+        Truth::True | Truth::False => return Decision::Refused,
     }
-    true
+    root.decide(l);
+    match root.propagate() {
+        Some(_) => Decision::Conflict,
+        None => Decision::Full,
+    }
 }
 
-fn decide_one(row: &mut Assignment, l: Lit) -> bool
-    requires within { l.var < row.old.width }
-    requires apart { IsApart row.old.trail }
-    requires fits { length row.old.trail ≤ row.old.width }
-    ensures answer { IsTrue result ↔ IsApart (row.old.trail ++ l ∷ []) }
-    ensures trail { OnTrue result (row.new.trail ≡ row.old.trail ++ l ∷ []) }
-    ensures width { row.new.width ≡ row.old.width }
-    ensures fits { length row.new.trail ≤ row.new.width }
+/// Whether propagation conflicts with these literals decided too, or the variable of one was set before.
+pub fn conflicts_with(root: &mut Propagator, lits: &[Lit]) -> bool
+    requires { IsWithin root.old.width lits.now }
+    ensures extends { Extends root.old root.new }
+    ensures conflicts { IsTrue result → HasSet root.old.clauses (decisions root.old) lits.now
+        ⊎ Conflicts root.old.clauses (decisions root.old ++ lits.now) }
+    ensures none { OnFalse result (¬ Conflicts root.old.clauses (decisions root.old ++ lits.now)) }
 {
-    if let Truth::Open = row.value(l) {
-        row.set(l);
+    if !decide_all(root, lits) {
         return true;
     }
-    false
+    match root.propagate() {
+        Some(_) => true,
+        None => false,
+    }
+}
+
+/// Decides the literals in order; false where the variable of one was set before.
+fn decide_all(root: &mut Propagator, lits: &[Lit]) -> bool
+    requires { IsWithin root.old.width lits.now }
+    ensures extends { Extends root.old root.new }
+    ensures decided { OnTrue result (decisions root.new ≡ decisions root.old ++ lits.now) }
+    ensures refused { OnFalse result (HasSet root.old.clauses (decisions root.old) lits.now) }
+{
+    for l in lits {
+        match root.value(*l) {
+            Truth::Open => root.decide(*l),
+            Truth::True | Truth::False => return false,
+        }
+    }
+    true
 }

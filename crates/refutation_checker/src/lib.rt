@@ -2,19 +2,14 @@
 //! and its answer that a formula is refuted is a theorem. It finds no derivation.
 #![tactic(auto)]
 
-mod assignment;
 mod checker;
-mod clause_database;
-mod clause_state;
 mod copies;
 mod cube;
 mod decide;
+mod evidence;
 mod hints;
-mod index;
-mod look;
-mod plain;
-mod propagation;
+pub mod laws;
+mod root;
 mod variables;
-mod watches;
 
 pub use checker::{CheckFault, Checker};

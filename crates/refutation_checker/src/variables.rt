@@ -1,7 +1,7 @@
 //! The variables of a formula: how many numbers they take, and which numbers they are.
 
 ghost use Rattle.std.specs.Prelude.{◌≡◌, ◌<◌, ◌≤◌, ◌↔◌, ◌⊎◌, ℕ, false, IsTrue, IfOk, All, Any, length};
-ghost use Rattle.refutation_checker.specs.Assigned.{IsWithin};
+ghost use Rattle.unit_propagation.specs.Units.{IsWithin};
 ghost use Rattle.refutation_checker.specs.Derivation.{IsInput};
 ghost use Rattle.refutation_checker.specs.Variables.{IsDeclared, Declares, AddsVariables};
 
@@ -33,7 +33,7 @@ fn highest_in(lits: &[Lit], above: u32) -> u32
     highest
 }
 
-/// The row of the inputs and the variables of the clauses.
+/// Which numbers are those of the inputs and of variables of the clauses.
 pub fn declared_variables(
     alloc: Global,
     clauses: &[Clause],
@@ -42,55 +42,55 @@ pub fn declared_variables(
 ) -> Result<Vec<bool>, AllocError>
     requires inputs { inputs < width }
     requires within { All (IsWithin width) clauses.now }
-    ensures len { IfOk result (λ row. length row.items ≡ width) }
-    ensures declares { IfOk result (λ row. Declares row.items inputs clauses.now) }
+    ensures len { IfOk result (λ declared. length declared.items ≡ width) }
+    ensures declares { IfOk result (λ declared. Declares declared.items inputs clauses.now) }
 {
-    let mut row = vec![in alloc; false; width]?;
-    declare_inputs(&mut row, inputs);
-    declare_all(&mut row, clauses);
-    Ok(row)
+    let mut declared = vec![in alloc; false; width]?;
+    declare_inputs(&mut declared, inputs);
+    declare_all(&mut declared, clauses);
+    Ok(declared)
 }
 
-fn declare_inputs(row: &mut [bool], inputs: u32)
-    requires inputs { inputs < length row.old }
-    requires nothing { All (λ declared. declared ≡ false) row.old }
-    ensures { (var : ℕ) → IsDeclared row.new var ↔ IsInput inputs var }
+fn declare_inputs(declared: &mut [bool], inputs: u32)
+    requires inputs { inputs < length declared.old }
+    requires nothing { All (λ declared. declared ≡ false) declared.old }
+    ensures { (var : ℕ) → IsDeclared declared.new var ↔ IsInput inputs var }
 {
     for var in 1..inputs as usize + 1 {
-        row[var] = true;
+        declared[var] = true;
     }
 }
 
-fn declare_all(row: &mut [bool], clauses: &[Clause])
-    requires within { All (IsWithin (length row.old)) clauses.now }
-    ensures { (var : ℕ) → IsDeclared row.new var
-        ↔ (IsDeclared row.old var ⊎ Any (Any (λ l. l.var ≡ var)) clauses.now) }
+fn declare_all(declared: &mut [bool], clauses: &[Clause])
+    requires within { All (IsWithin (length declared.old)) clauses.now }
+    ensures { (var : ℕ) → IsDeclared declared.new var
+        ↔ (IsDeclared declared.old var ⊎ Any (Any (λ l. l.var ≡ var)) clauses.now) }
 {
     for clause in clauses {
-        declare(row, clause.as_slice());
+        declare(declared, clause.as_slice());
     }
 }
 
-fn declare(row: &mut [bool], lits: &[Lit])
-    requires within { IsWithin (length row.old) lits.now }
-    ensures { AddsVariables row.old row.new lits.now }
+fn declare(declared: &mut [bool], lits: &[Lit])
+    requires within { IsWithin (length declared.old) lits.now }
+    ensures { AddsVariables declared.old declared.new lits.now }
 {
     for l in lits {
-        row[l.var as usize] = true;
+        declared[l.var as usize] = true;
     }
 }
 
-/// Whether the row has the variables of the literals.
-pub fn are_declared(row: &[bool], lits: &[Lit]) -> bool
-    ensures { IsTrue result ↔ All (λ l. IsDeclared row.now l.var) lits.now }
+/// Whether the variables of the literals are declared.
+pub fn are_declared(declared: &[bool], lits: &[Lit]) -> bool
+    ensures { IsTrue result ↔ All (λ l. IsDeclared declared.now l.var) lits.now }
 {
-    lits.iter().all(|l| is_declared(row, l.var))
+    lits.iter().all(|l| is_declared(declared, l.var))
 }
 
-fn is_declared(row: &[bool], var: u32) -> bool
-    ensures { IsTrue result ↔ IsDeclared row.now var }
+fn is_declared(declared: &[bool], var: u32) -> bool
+    ensures { IsTrue result ↔ IsDeclared declared.now var }
 {
-    match row.get(var as usize) {
+    match declared.get(var as usize) {
         Some(declared) => *declared,
         None => false,
     }

@@ -4,7 +4,7 @@
 mod full_sets;
 
 use crate::signed::{formula, literals};
-use cnf_core::Step;
+use cnf_core::{Derived, Step};
 use refutation_checker::{CheckFault, Checker};
 use sqlite_items::Items;
 use std::alloc::{AllocError, Global};
@@ -146,6 +146,43 @@ const CASES: &[Case] = &[
         refuted: true,
     },
     Case {
+        shows: "a conflict under no decision",
+        clauses: &[&[1], &[-1, 2], &[-2, -1], &[3, 4], &[3, -4]],
+        inputs: 4,
+        lines: &[
+            (Line::Cube(&[-3]), false),
+            (Line::Step(&[3], &[4, 5]), true),
+            (Line::Cube(&[1]), false),
+            (Line::Step(&[], &[1, 2, 3]), true),
+        ],
+        refuted: true,
+    },
+    Case {
+        shows: "a unit that a cube leaves stays set for cubes, and is not set for steps",
+        clauses: &[
+            &[1, 2, 3],
+            &[1, 2, -3],
+            &[1, -2, 4],
+            &[1, -2, -4],
+            &[5, 6, 7, -1],
+            &[5, 6, -7, -1],
+        ],
+        inputs: 6,
+        lines: &[
+            (Line::Cube(&[-1, -2]), true),
+            (Line::Cube(&[-1, 2]), false),
+            (Line::Cube(&[-1]), true),
+            // variable 1 is set now
+            (Line::Cube(&[1, -5]), false),
+            (Line::Cube(&[-5, 1]), false),
+            (Line::Cube(&[-5, -6]), true),
+            // but a step begins with nothing set
+            (Line::Step(&[5, 6], &[5, 6]), false),
+            (Line::Step(&[5, 6], &[8, 5, 6]), true),
+        ],
+        refuted: false,
+    },
+    Case {
         shows: "steps over variables of the clauses, and no inputs",
         clauses: SQUARE,
         inputs: 0,
@@ -185,6 +222,37 @@ fn accepted(alloc: Global, checker: &mut Checker, line: Line) -> Result<bool, Al
     }
 }
 
+/// Whether it is that line.
+fn is(alloc: Global, derived: &Derived, line: Line) -> Result<bool, AllocError> {
+    match (derived, line) {
+        (Derived::Cube(cube), Line::Cube(right)) => {
+            Ok(cube.as_slice() == literals(alloc, right)?.as_slice())
+        }
+        (Derived::Step(step), Line::Step(clause, hints)) => Ok(
+            step.clause.as_slice() == literals(alloc, clause)?.as_slice()
+                && step.hints.as_slice() == hints,
+        ),
+        (Derived::Cube(_), Line::Step(..)) | (Derived::Step(_), Line::Cube(_)) => Ok(false),
+    }
+}
+
+/// Whether the checker hands out the accepted lines and no others.
+fn hands_out(alloc: Global, checker: Checker, case: &Case) -> Result<bool, AllocError> {
+    let derived = checker.into_derived()?;
+    let mut left = derived.as_slice().iter();
+    for (line, right) in case.lines {
+        if *right {
+            match left.next() {
+                Some(derived) => if !is(alloc, derived, *line)? {
+                    return Ok(false);
+                },
+                None => return Ok(false),
+            }
+        }
+    }
+    Ok(left.next().is_none())
+}
+
 fn check<R: Abort + AllocGlobal>(rt: &R, case: &Case) -> Result<(), Fail> {
     let mut checker = Checker::new(rt.alloc(), &formula(rt.alloc(), case.clauses)?, case.inputs)?;
     for (number, (line, right)) in case.lines.iter().enumerate() {
@@ -192,6 +260,8 @@ fn check<R: Abort + AllocGlobal>(rt: &R, case: &Case) -> Result<(), Fail> {
         assert_eq!(rt; answer, *right, "{}: line {number}", case.shows);
     }
     assert_eq!(rt; checker.refuted(), case.refuted, "{}", case.shows);
+    let right = hands_out(rt.alloc(), checker, case)?;
+    assert!(rt; right, "{}: the lines that are handed out", case.shows);
     Ok(())
 }
 

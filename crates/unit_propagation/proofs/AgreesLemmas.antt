@@ -10,7 +10,7 @@ use Rattle.cnf_core.specs.declared.formula.Lit.{Lit}
 use Rattle.cnf_core.specs.Literal.{negation}
 use Rattle.cnf_core.proofs.Literals.{lit, lit-same}
 use Rattle.unit_propagation.specs.Units.{IsOpen}
-use Rattle.unit_propagation.proofs.ApartLemmas.{apart_open, apart_front, apart_last}
+use Rattle.unit_propagation.proofs.ApartLaws.{apart_open, apart_front, apart_last}
 use Rattle.unit_propagation.specs.Units.{IsWithin}
 use Rattle.unit_propagation.specs.Assigned.{Agrees, StandsAs, truth_of, is_set}
 use Rattle.unit_propagation.specs.declared.assignment.Truth.{Truth}
@@ -33,7 +33,7 @@ open_cases True values trail v false h o e = absurd (o.1 (h.on_trail (lit v true
 open_cases False values trail v true h o e = absurd (o.1 (h.on_trail (lit v false) e))
 open_cases False values trail v false h o e = absurd (o.0 (h.on_trail (lit v false) e))
 
--- an open literal's variable is open in the row
+-- an open literal's variable is open in the values
 pub open_value : (values : List Truth) (trail : List Lit) (l : Lit) → Agrees values trail → IsOpen trail l → get_or values l.var Open ≡ Open
 open_value values trail l h o = open_cases (get_or values l.var Open) values trail l.var l.positive h o refl
 
@@ -63,22 +63,22 @@ room values trail l h inside o =
     let counted = h.counted in
     omega arith
 
--- the trail is no longer than the row
+-- the trail is no longer than the values
 pub fits : (values : List Truth) (trail : List Lit) → Agrees values trail → length trail ≤ length values
 fits values trail h =
     let most : count_by is_set values ≤ length values = count_by-le-length is_set values in
     let counted = h.counted in
     omega arith
 
--- the row and its trail after a literal is set
+-- the values and the trail after a literal is set
 pub agrees_set : (values : List Truth) (trail : List Lit) (l : Lit) → Agrees values trail → l.var < length values → IsOpen trail l →
     Agrees (set values l.var (truth_of l.positive)) (trail ++ l ∷ [])
 agrees_set values trail l h inside o = record { holds_trail = holds; on_trail = on; counted = counts; apart = apart_open trail l h.apart o } where
   was_open : get_or values l.var Open ≡ Open
   was_open = open_value values trail l h o
 
-  row : List Truth
-  row = set values l.var (truth_of l.positive)
+  written : List Truth
+  written = set values l.var (truth_of l.positive)
 
   holds : (k : Lit) → Contains (trail ++ l ∷ []) k → get_or (set values l.var (truth_of l.positive)) k.var Open ≡ truth_of k.positive
   holds k stands = elim (Contains-push_cases trail l k stands) [
@@ -109,19 +109,19 @@ not_same : (b : Bool) → truth_of b ≡ truth_of (not b) → ⊥
 not_same true e = absurd (cc)
 not_same false e = absurd (cc)
 
--- a literal whose variable has the other sign in the row is false
+-- a literal whose variable has the other sign in the values is false
 pub stands_false : (values : List Truth) (trail : List Lit) (l : Lit) → Agrees values trail →
     get_or values l.var Open ≡ truth_of (not l.positive) → StandsAs trail l False
 stands_false values trail l h other =
     (h.on_trail (negation l) other, λ here. not_same l.positive (sym (h.holds_trail l here) ∙ other))
 
--- a literal whose variable has its sign in the row is true
+-- a literal whose variable has its sign in the values is true
 pub stands_true : (values : List Truth) (trail : List Lit) (l : Lit) → Agrees values trail →
     get_or values l.var Open ≡ truth_of l.positive → StandsAs trail l True
 stands_true values trail l h here =
     (h.on_trail l here, λ other. not_same l.positive (sym here ∙ h.holds_trail (negation l) other))
 
--- a literal on the trail has its variable in the row, since that variable is not open there
+-- a literal on the trail has its variable among the values, since that variable is not open there
 pub within : (values : List Truth) (trail : List Lit) → Agrees values trail → IsWithin (length values) trail
 within values trail h k d inside = elim (cases_lt (get_or trail k d).var (length values)) [
   | inl below ↦ below

@@ -17,7 +17,7 @@ use Rattle.unit_propagation.specs.Ready.{Ready, AllReady, LooseAreTrue}
 use Rattle.unit_propagation.specs.Propagated.{SaysNothing, AreAllSet, IsFalseClause, IsTotal, HasTrueLiterals}
 use Rattle.unit_propagation.proofs.PairLemmas.{has_contains, contains_has, watches_first, watches_second}
 
-reason_cases : (r : Option ℕ) → (r ≡ None) ⊎ ((c : ℕ) × (r ≡ Some c))
+pub reason_cases : (r : Option ℕ) → (r ≡ None) ⊎ ((c : ℕ) × (r ≡ Some c))
 reason_cases None = inl refl
 reason_cases (Some c) = inr (c, refl)
 
@@ -25,7 +25,7 @@ after : (x l : Lit) (xs : List Lit) → Contains xs l → Contains (x ∷ xs) l
 after x l xs (k, inside, at) = (suc k, omega arith, at)
 
 -- a literal without a reason was decided
-decided_contains : (trail : List Lit) (reasons : List (Option ℕ)) (n : ℕ) (d : Lit) → length reasons ≡ length trail → n < length trail → get_or reasons n None ≡ None →
+pub decided_contains : (trail : List Lit) (reasons : List (Option ℕ)) (n : ℕ) (d : Lit) → length reasons ≡ length trail → n < length trail → get_or reasons n None ≡ None →
     Contains (decided trail reasons) (get_or trail n d)
 decided_contains [] reasons n d same inside is = absurd (omega arith)
 decided_contains (x ∷ xs) [] n d same inside is = absurd (omega arith)

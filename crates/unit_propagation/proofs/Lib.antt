@@ -1,4 +1,4 @@
-pub mod ApartLemmas
+pub mod ApartLaws
 pub mod AgreesLemmas
 pub mod ListLemmas
 pub mod PairLemmas
@@ -9,3 +9,6 @@ pub mod TrailLemmas
 pub mod VisitLemmas
 pub mod FixpointLemmas
 pub mod StateLemmas
+pub mod ClauseStateLemmas
+pub mod PlainLemmas
+pub mod PropagationLaws

@@ -14,7 +14,7 @@ use Rattle.unit_propagation.proofs.ReadyLemmas.{Visiting, visiting_kept, visitin
 -- what a visit that began with `start` and `a` has come to
 pub record Visited (start : Watched) (a : Assigned) (head : ℕ) (falsified : Lit) (w : Watched) (b : Assigned) (place : ℕ) : Type 0 where
   pub width : w.width ≡ start.width
-  pub row_width : b.width ≡ a.width
+  pub assignment_width : b.width ≡ a.width
   pub clauses : w.clauses ≡ start.clauses
   pub implies : Implies start.clauses a.trail a.causes b.trail b.causes
   pub keeps : KeepsReady start.clauses start.pairs w.pairs a.trail
@@ -36,7 +36,7 @@ pub visited_kept : (start w new : Watched) (a b next : Assigned) (head : ℕ) (l
     Visited start a head (negation l) new next (place + 1)
 visited_kept start w new a b next head l place inside at here v seen width = subst (λ (x : Watched). Visited start a head (negation l) x next (place + 1)) (sym seen.0) (record {
   width = v.width;
-  row_width = width ∙ v.row_width;
+  assignment_width = width ∙ v.assignment_width;
   clauses = v.clauses;
   implies = implies_then start.clauses a.trail b.trail next.trail a.causes b.causes next.causes v.implies step;
   keeps = v.keeps;
@@ -59,7 +59,7 @@ pub visited_moved : (start w new : Watched) (a b next : Assigned) (head : ℕ) (
     Visited start a head (negation l) w b place → IsSeen w new b next (negation l) place Moved → Visited start a head (negation l) new next place
 visited_moved start w new a b next head l place inside at here exists paired v seen = subst (λ (x : Assigned). Visited start a head (negation l) new x place) (sym seen.0) (record {
   width = seen.1.width ∙ v.width;
-  row_width = v.row_width;
+  assignment_width = v.assignment_width;
   clauses = seen.1.clauses ∙ v.clauses;
   implies = v.implies;
   keeps = keeps_then start.clauses start.pairs w.pairs new.pairs a.trail v.implies.more v.keeps

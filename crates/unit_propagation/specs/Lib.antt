@@ -9,3 +9,5 @@ pub mod Loose
 pub mod Propagated
 pub mod Propagation
 pub mod PropagatorFields
+pub mod ClauseStates
+pub mod Plain

@@ -1,9 +1,13 @@
 -- Clauses and an assignment, as a caller sees them.
-use Rattle.std.specs.Prelude.{◌≡◌, ℕ, ◌++◌, ◌∷◌, [], List, Option, None, take, slice_index_or, ◌≤◌, true, ◌⊎◌}
+use Rattle.std.specs.Prelude.{◌≡◌, ℕ, ◌++◌, ◌∷◌, [], List, Option, None, Contains, take, slice_index_or, ◌≤◌, true, ◌⊎◌, ⊤}
 use Rattle.cnf_core.specs.declared.formula.Lit.{Lit}
+use Rattle.cnf_core.specs.Literal.{negation}
+use Rattle.cnf_core.specs.Propagation.{Sets, Conflicts}
 use Rattle.unit_propagation.specs.Trail.{decided, Explains}
 use Rattle.unit_propagation.specs.Propagated.{AreAllSet, IsTotal, HasTrueLiterals}
 use Rattle.unit_propagation.specs.declared.assignment.Cause.{Cause}
+use Rattle.unit_propagation.specs.declared.assignment.Truth.{Truth}
+use Rattle.unit_propagation.specs.declared.assignment.Truth.TheVariants.{True, False, Open}
 
 -- variable numbers are below `width`; a literal of the trail without a reason was decided
 pub record Propagation : Type 0 where
@@ -52,3 +56,14 @@ IsFull old new = AreAllSet old.clauses (decisions old) new.trail
 -- where each variable is set, each clause has a true literal
 abbrev pub IsSatisfiedIfTotal : Propagation → Type 0
 IsSatisfiedIfTotal p = IsTotal p.clauses p.trail → HasTrueLiterals p.clauses p.trail
+
+-- the decided literals set the literal's negation, which was decided itself, or the literal conflicts with them
+pub record IsRefuted (clauses : List (List Lit)) (decided : List Lit) (l : Lit) : Type 0 where
+  pub sets : Sets clauses decided (negation l)
+  pub why : Contains decided (negation l) ⊎ Conflicts clauses (decided ++ l ∷ [])
+
+-- why a literal stands as it does
+abbrev pub FollowsAs : Propagation → Lit → Truth → Type 0
+FollowsAs p l True = Sets p.clauses (decisions p) l
+FollowsAs p l False = IsRefuted p.clauses (decisions p) l
+FollowsAs p l Open = ⊤

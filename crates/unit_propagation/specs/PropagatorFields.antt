@@ -24,11 +24,11 @@ abbrev pub propagation_of : Inside → Propagation
 propagation_of a = record {
   width = a.watched.width;
   clauses = a.watched.clauses;
-  trail = a.row.trail;
-  reasons = reasons_of a.row.causes;
+  trail = a.assignment.trail;
+  reasons = reasons_of a.assignment.causes;
 }
 
 abbrev pub IsPropagator : Inside → Type 0
 IsPropagator a =
-    (a.watched.width ≤ a.row.width) ×
-    IsState a.watched.clauses a.watched.pairs a.row.trail a.row.causes a.head a.loose.items
+    (a.watched.width ≤ a.assignment.width) ×
+    IsState a.watched.clauses a.watched.pairs a.assignment.trail a.assignment.causes a.head a.loose.items

@@ -1,6 +1,6 @@
 //! The assignment: the truth of each variable, and the trail of the literals that were set, each with its cause.
 
-ghost use Rattle.std.specs.Prelude.{◌≡◌, ◌<◌, ◌≤◌, ◌++◌, ◌∷◌, [], Some, length, slice_get, take, false, All, OnOk, vec_capacity};
+ghost use Rattle.std.specs.Prelude.{◌≡◌, ◌<◌, ◌≤◌, ◌++◌, ◌∷◌, [], Some, None, length, slice_get, take, false, All, OnOk, vec_capacity};
 ghost use Rattle.unit_propagation.specs.Units.{IsOpen, IsConsistent};
 ghost use Rattle.unit_propagation.specs.Assigned.{StandsAs};
 ghost use Rattle.unit_propagation.specs.Trail.{reasons_of};
@@ -34,6 +34,30 @@ impl From<bool> for Truth {
 pub struct Cause {
     pub reason: Option<usize>,
     pub ended: bool,
+}
+
+impl Cause {
+    /// Decided.
+    pub fn decided() -> Cause
+        ensures reason { result.reason ≡ None }
+        ensures ended { result.ended ≡ false }
+    {
+        Cause {
+            reason: None,
+            ended: false,
+        }
+    }
+
+    /// Implied by the clause of that number.
+    pub fn implied(clause: usize) -> Cause
+        ensures reason { result.reason ≡ Some clause }
+        ensures ended { result.ended ≡ false }
+    {
+        Cause {
+            reason: Some(clause),
+            ended: false,
+        }
+    }
 }
 
 /// Variables below `width` with the literals set so far, in order. Only `new` and `grow` take memory.

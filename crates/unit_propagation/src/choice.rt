@@ -25,14 +25,14 @@ pub struct Choice {
 }
 
 impl Choice {
-    pub fn of(clause: &[Lit], row: &Assignment) -> Choice
-        requires { IsWithin row.now.width clause.now }
+    pub fn of(clause: &[Lit], assignment: &Assignment) -> Choice
+        requires { IsWithin assignment.now.width clause.now }
         ensures stands { (l : Literal) → IsTrue (watches result.pair l) → Contains clause.now l }
-        ensures first { result.free ≡ true → ¬ IsFalse row.now.trail result.pair.first }
-        ensures second { result.free ≡ true → ¬ IsFalse row.now.trail result.pair.second }
+        ensures first { result.free ≡ true → ¬ IsFalse assignment.now.trail result.pair.first }
+        ensures second { result.free ≡ true → ¬ IsFalse assignment.now.trail result.pair.second }
         ensures one { result.pair.first ≡ result.pair.second → IsOne clause.now }
     {
-        if let Some(pair) = free_pair(clause, row) {
+        if let Some(pair) = free_pair(clause, assignment) {
             return Choice { pair, free: true };
         }
         Choice {
@@ -43,23 +43,23 @@ impl Choice {
 }
 
 /// Two literals that differ and are not false.
-fn free_pair(clause: &[Lit], row: &Assignment) -> Option<Pair>
-    requires { IsWithin row.now.width clause.now }
-    ensures { IfSome result (λ p. IsFreePair row.now.trail clause.now p) }
+fn free_pair(clause: &[Lit], assignment: &Assignment) -> Option<Pair>
+    requires { IsWithin assignment.now.width clause.now }
+    ensures { IfSome result (λ p. IsFreePair assignment.now.trail clause.now p) }
 {
-    let first = find_free(clause, row)?;
-    let second = find_other(clause, first, row)?;
+    let first = find_free(clause, assignment)?;
+    let second = find_other(clause, first, assignment)?;
     Some(Pair { first, second })
 }
 
 /// A literal that is not false.
-fn find_free(clause: &[Lit], row: &Assignment) -> Option<Lit>
-    requires { IsWithin row.now.width clause.now }
+fn find_free(clause: &[Lit], assignment: &Assignment) -> Option<Lit>
+    requires { IsWithin assignment.now.width clause.now }
     ensures stands { IfSome result (λ l. Contains clause.now l) }
-    ensures free { IfSome result (λ l. ¬ IsFalse row.now.trail l) }
+    ensures free { IfSome result (λ l. ¬ IsFalse assignment.now.trail l) }
 {
     for l in clause {
-        if !is_false(row, *l) {
+        if !is_false(assignment, *l) {
             return Some(*l);
         }
     }

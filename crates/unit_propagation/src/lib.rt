@@ -4,12 +4,16 @@
 
 mod assignment;
 mod choice;
+mod clause_state;
+pub mod laws;
 mod loose;
 mod pair;
+mod plain;
 mod propagation;
 mod propagator;
 mod watch_lists;
 mod watched_clauses;
 
-pub use assignment::Truth;
+pub use assignment::{Assignment, Cause, Truth};
+pub use clause_state::ClauseState;
 pub use propagator::Propagator;

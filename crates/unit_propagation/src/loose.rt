@@ -12,16 +12,16 @@ use crate::pair::Pair;
 use cnf_core::Clause;
 
 /// Sets the literals of the clauses of these numbers; the number of a false one, where there is one.
-pub fn set_loose(clauses: &[Clause], row: &mut Assignment, loose: &[usize]) -> Option<usize>
-    requires within { All (IsWithin row.old.width) clauses.now }
+pub fn set_loose(clauses: &[Clause], assignment: &mut Assignment, loose: &[usize]) -> Option<usize>
+    requires within { All (IsWithin assignment.old.width) clauses.now }
     requires loose { AreLoose clauses.now loose.now }
-    ensures width { row.new.width ≡ row.old.width }
-    ensures implies { Implied clauses.now row.old row.new }
-    ensures falsified { IfSome result (λ c. IsFalseClause clauses.now row.new.trail c) }
-    ensures are_true { IfNone result (AreTrue clauses.now loose.now row.new.trail) }
+    ensures width { assignment.new.width ≡ assignment.old.width }
+    ensures implies { Implied clauses.now assignment.old assignment.new }
+    ensures falsified { IfSome result (λ c. IsFalseClause clauses.now assignment.new.trail c) }
+    ensures are_true { IfNone result (AreTrue clauses.now loose.now assignment.new.trail) }
 {
     for number in loose {
-        if is_falsified(clauses, row, *number) {
+        if is_falsified(clauses, assignment, *number) {
             return Some(*number);
         }
     }
@@ -29,22 +29,22 @@ pub fn set_loose(clauses: &[Clause], row: &mut Assignment, loose: &[usize]) -> O
 }
 
 /// Sets the literal of the clause, if it is open, and says whether the clause is false.
-fn is_falsified(clauses: &[Clause], row: &mut Assignment, number: usize) -> bool
-    requires within { All (IsWithin row.old.width) clauses.now }
+fn is_falsified(clauses: &[Clause], assignment: &mut Assignment, number: usize) -> bool
+    requires within { All (IsWithin assignment.old.width) clauses.now }
     requires loose { IsLoose clauses.now number }
-    ensures width { row.new.width ≡ row.old.width }
-    ensures implies { Implied clauses.now row.old row.new }
-    ensures falsified { OnTrue result (IsFalsified clauses.now row.new.trail number) }
-    ensures is_true { OnFalse result (HasTrue clauses.now row.new.trail number) }
+    ensures width { assignment.new.width ≡ assignment.old.width }
+    ensures implies { Implied clauses.now assignment.old assignment.new }
+    ensures falsified { OnTrue result (IsFalsified clauses.now assignment.new.trail number) }
+    ensures is_true { OnFalse result (HasTrue clauses.now assignment.new.trail number) }
 {
     let Some(l) = clauses[number].as_slice().first() else {
         return true;
     };
-    match row.value(*l) {
+    match assignment.value(*l) {
         Truth::True => false,
         Truth::False => true,
         Truth::Open => {
-            row.set(
+            assignment.set(
                 *l,
                 Cause {
                     reason: Some(number),

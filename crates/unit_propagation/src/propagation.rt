@@ -24,27 +24,31 @@ pub enum Seen {
 
 /// Looks at the clauses that watch what the trail falsifies from the head on; the number of a false one, where there is
 /// one. The head moves past each literal whose clauses were all looked at.
-pub fn run(watched: &mut WatchedClauses, row: &mut Assignment, head: &mut usize) -> Option<usize>
-    requires width { watched.old.width ≤ row.old.width }
-    requires head { head.old ≤ length row.old.trail }
-    requires ready { ReadyTo watched.old.clauses watched.old.pairs row.old.trail head.old }
-    requires loose { LooseAreTrue watched.old.clauses watched.old.pairs row.old.trail }
+pub fn run(
+    watched: &mut WatchedClauses,
+    assignment: &mut Assignment,
+    head: &mut usize,
+) -> Option<usize>
+    requires width { watched.old.width ≤ assignment.old.width }
+    requires head { head.old ≤ length assignment.old.trail }
+    requires ready { ReadyTo watched.old.clauses watched.old.pairs assignment.old.trail head.old }
+    requires loose { LooseAreTrue watched.old.clauses watched.old.pairs assignment.old.trail }
     requires indexed { IsWhole watched.old }
     ensures width { watched.new.width ≡ watched.old.width }
-    ensures row_width { row.new.width ≡ row.old.width }
+    ensures assignment_width { assignment.new.width ≡ assignment.old.width }
     ensures clauses { watched.new.clauses ≡ watched.old.clauses }
-    ensures implies { Implied watched.old.clauses row.old row.new }
-    ensures keeps { KeepsAll watched.old watched.new row.old.trail }
-    ensures ready { ReadyTo watched.old.clauses watched.new.pairs row.new.trail head.new }
-    ensures head { head.new ≤ length row.new.trail }
-    ensures ended { IfNone result (head.new ≡ length row.new.trail) }
-    ensures falsified { IfSome result (λ c. IsFalseClause watched.old.clauses row.new.trail c) }
-    ensures loose { LooseAreTrue watched.old.clauses watched.new.pairs row.new.trail }
+    ensures implies { Implied watched.old.clauses assignment.old assignment.new }
+    ensures keeps { KeepsAll watched.old watched.new assignment.old.trail }
+    ensures ready { ReadyTo watched.old.clauses watched.new.pairs assignment.new.trail head.new }
+    ensures head { head.new ≤ length assignment.new.trail }
+    ensures ended { IfNone result (head.new ≡ length assignment.new.trail) }
+    ensures falsified { IfSome result (λ c. IsFalseClause watched.old.clauses assignment.new.trail c) }
+    ensures loose { LooseAreTrue watched.old.clauses watched.new.pairs assignment.new.trail }
     ensures indexed { IfNone result (IsWhole watched.new) }
-    ensures consistent { IfNone result (IsConsistent row.new.trail) }
+    ensures consistent { IfNone result (IsConsistent assignment.new.trail) }
 {
-    while *head < row.count() {
-        if let Some(clause) = visit(watched, row, *head) {
+    while *head < assignment.count() {
+        if let Some(clause) = visit(watched, assignment, *head) {
             return Some(clause);
         }
         *head += 1;
@@ -54,30 +58,30 @@ pub fn run(watched: &mut WatchedClauses, row: &mut Assignment, head: &mut usize)
 
 /// Looks at the clauses that watch what the literal at that place falsifies; the number of a false one, where there is
 /// one.
-fn visit(watched: &mut WatchedClauses, row: &mut Assignment, head: usize) -> Option<usize>
-    requires width { watched.old.width ≤ row.old.width }
-    requires head { head < length row.old.trail }
-    requires ready { ReadyTo watched.old.clauses watched.old.pairs row.old.trail head }
-    requires loose { LooseAreTrue watched.old.clauses watched.old.pairs row.old.trail }
+fn visit(watched: &mut WatchedClauses, assignment: &mut Assignment, head: usize) -> Option<usize>
+    requires width { watched.old.width ≤ assignment.old.width }
+    requires head { head < length assignment.old.trail }
+    requires ready { ReadyTo watched.old.clauses watched.old.pairs assignment.old.trail head }
+    requires loose { LooseAreTrue watched.old.clauses watched.old.pairs assignment.old.trail }
     ensures width { watched.new.width ≡ watched.old.width }
-    ensures row_width { row.new.width ≡ row.old.width }
+    ensures assignment_width { assignment.new.width ≡ assignment.old.width }
     ensures clauses { watched.new.clauses ≡ watched.old.clauses }
-    ensures implies { Implied watched.old.clauses row.old row.new }
-    ensures keeps { KeepsAll watched.old watched.new row.old.trail }
-    ensures ready { ReadyTo watched.old.clauses watched.new.pairs row.new.trail head }
-    ensures next { IfNone result (ReadyPast watched.old watched.new row.new.trail head) }
-    ensures falsified { IfSome result (λ c. IsFalseClause watched.old.clauses row.new.trail c) }
-    ensures loose { LooseAreTrue watched.old.clauses watched.new.pairs row.new.trail }
+    ensures implies { Implied watched.old.clauses assignment.old assignment.new }
+    ensures keeps { KeepsAll watched.old watched.new assignment.old.trail }
+    ensures ready { ReadyTo watched.old.clauses watched.new.pairs assignment.new.trail head }
+    ensures next { IfNone result (ReadyPast watched.old watched.new assignment.new.trail head) }
+    ensures falsified { IfSome result (λ c. IsFalseClause watched.old.clauses assignment.new.trail c) }
+    ensures loose { LooseAreTrue watched.old.clauses watched.new.pairs assignment.new.trail }
     ensures indexed { IfNone result (IsWhole watched.new) }
 {
-    let falsified = !row.nth(head);
+    let falsified = !assignment.nth(head);
     if watched.width() <= falsified.var as usize {
         return None;
     }
     let mut place = 0;
     while place < watched.count(falsified) {
         let clause = watched.nth(falsified, place);
-        match step(watched, row, falsified, place) {
+        match step(watched, assignment, falsified, place) {
             Seen::Kept => place += 1,
             Seen::Moved => (),
             Seen::Falsified => return Some(clause),
@@ -87,30 +91,35 @@ fn visit(watched: &mut WatchedClauses, row: &mut Assignment, head: usize) -> Opt
 }
 
 /// Looks at the clause at that place of the falsified literal's list.
-fn step(watched: &mut WatchedClauses, row: &mut Assignment, falsified: Lit, place: usize) -> Seen
-    requires width { watched.old.width ≤ row.old.width }
+fn step(
+    watched: &mut WatchedClauses,
+    assignment: &mut Assignment,
+    falsified: Lit,
+    place: usize,
+) -> Seen
+    requires width { watched.old.width ≤ assignment.old.width }
     requires within { falsified.var < watched.old.width }
     requires inside { place < length (list_at watched.old.lists falsified) }
-    requires falsified { IsFalse row.old.trail falsified }
-    ensures seen { IsSeen watched.old watched.new row.old row.new falsified place result }
-    ensures row_width { row.new.width ≡ row.old.width }
+    requires falsified { IsFalse assignment.old.trail falsified }
+    ensures seen { IsSeen watched.old watched.new assignment.old assignment.new falsified place result }
+    ensures assignment_width { assignment.new.width ≡ assignment.old.width }
 {
     let number = watched.nth(falsified, place);
     let Some(other) = watched.pair(number).other(falsified) else {
         return Seen::Kept;
     };
-    let truth = row.value(other);
+    let truth = assignment.value(other);
     if let Truth::True = truth {
         return Seen::Kept;
     }
-    if let Some(to) = find_other(watched.clauses()[number].as_slice(), other, row) {
+    if let Some(to) = find_other(watched.clauses()[number].as_slice(), other, assignment) {
         watched.rewatch(number, falsified, place, other, to);
         return Seen::Moved;
     }
     if let Truth::False = truth {
         return Seen::Falsified;
     }
-    row.set(
+    assignment.set(
         other,
         Cause {
             reason: Some(number),
@@ -121,13 +130,13 @@ fn step(watched: &mut WatchedClauses, row: &mut Assignment, falsified: Lit, plac
 }
 
 /// A literal of the clause beside this one that is not false.
-pub fn find_other(clause: &[Lit], other: Lit, row: &Assignment) -> Option<Lit>
-    requires { IsWithin row.now.width clause.now }
-    ensures found { IfSome result (λ l. IsFree row.now.trail clause.now other l) }
-    ensures none { IfNone result (All (λ k. k ≢ other → IsFalse row.now.trail k) clause.now) }
+pub fn find_other(clause: &[Lit], other: Lit, assignment: &Assignment) -> Option<Lit>
+    requires { IsWithin assignment.now.width clause.now }
+    ensures found { IfSome result (λ l. IsFree assignment.now.trail clause.now other l) }
+    ensures none { IfNone result (All (λ k. k ≢ other → IsFalse assignment.now.trail k) clause.now) }
 {
     for l in clause {
-        if *l != other && !is_false(row, *l) {
+        if *l != other && !is_false(assignment, *l) {
             return Some(*l);
         }
     }
@@ -135,9 +144,9 @@ pub fn find_other(clause: &[Lit], other: Lit, row: &Assignment) -> Option<Lit>
 }
 
 /// Whether the literal's negation is set.
-pub fn is_false(row: &Assignment, l: Lit) -> bool
-    requires { l.var < row.now.width }
-    ensures { IsTrue result ↔ IsFalse row.now.trail l }
+pub fn is_false(assignment: &Assignment, l: Lit) -> bool
+    requires { l.var < assignment.now.width }
+    ensures { IsTrue result ↔ IsFalse assignment.now.trail l }
 {
-    matches!(row.value(l), Truth::False)
+    matches!(assignment.value(l), Truth::False)
 }

@@ -1,13 +1,13 @@
 //! The propagator: clauses, the literals that were decided, and what follows from them.
 
-ghost use Rattle.std.specs.Prelude.{◌≡◌, ◌<◌, ◌≤◌, ◌^◌, ℕ, [], Some, All, IfSome, IfNone, OnOk, OnErr, length, slice_get};
+ghost use Rattle.std.specs.Prelude.{◌≡◌, ◌<◌, ◌≤◌, ◌^◌, ◌++◌, ◌∷◌, ℕ, [], Some, All, IfSome, IfNone, OnOk, OnErr, length, slice_get};
 ghost use Rattle.cnf_core.specs.Propagation.{Conflicts};
 ghost use Rattle.unit_propagation.specs.Trail.{IsJustified};
 ghost use Rattle.unit_propagation.specs.Units.{IsOpen, IsWithin, IsConsistent};
 ghost use Rattle.unit_propagation.specs.Assigned.{StandsAs};
 ghost use Rattle.unit_propagation.specs.Propagated.{IsFalseClause};
 ghost use Rattle.unit_propagation.specs.Propagation.{decisions, with_clause, with_decision, undone, Continues, ExplainsPlace, IsEnd};
-ghost use Rattle.unit_propagation.specs.Propagation.{IsFull, IsSatisfiedIfTotal};
+ghost use Rattle.unit_propagation.specs.Propagation.{FollowsAs, IsFull, IsSatisfiedIfTotal};
 
 use crate::assignment::{Assignment, Cause, Truth};
 use crate::choice::Choice;
@@ -23,7 +23,7 @@ use std::marker::Model;
 #[derive(Drop)]
 pub struct Propagator {
     watched: WatchedClauses,
-    row: Assignment,
+    assignment: Assignment,
     loose: Vec<usize>,
     head: usize,
 }
@@ -43,12 +43,13 @@ impl Model for Propagator {
 impl Propagator {
     /// No clauses over no variables, and nothing set.
     pub fn new(alloc: Global) -> Propagator
+        ensures width { result.width ≡ 0 }
         ensures clauses { result.clauses ≡ [] }
         ensures trail { result.trail ≡ [] }
     {
         Propagator {
             watched: WatchedClauses::new(alloc),
-            row: Assignment::new(alloc),
+            assignment: Assignment::new(alloc),
             loose: Vec::new(alloc),
             head: 0,
         }
@@ -64,7 +65,7 @@ impl Propagator {
         ensures trail { self.new.trail ≡ self.old.trail }
         ensures reasons { self.new.reasons ≡ self.old.reasons }
     {
-        self.row.grow(width)?;
+        self.assignment.grow(width)?;
         self.watched.grow(width)
     }
 
@@ -74,7 +75,7 @@ impl Propagator {
         ensures added { OnOk result (self.new ≡ with_clause self.old clause) }
         ensures kept { OnErr result (self.new ≡ self.old) }
     {
-        let choice = Choice::of(clause.as_slice(), &self.row);
+        let choice = Choice::of(clause.as_slice(), &self.assignment);
         self.loose.reserve(1)?;
         let number = self.watched.clauses().len();
         self.watched.add(clause, choice.pair)?;
@@ -82,7 +83,7 @@ impl Propagator {
         if choice.free {
             return Ok(());
         }
-        self.row.forget_ends();
+        self.assignment.forget_ends();
         self.head = 0;
         Ok(())
     }
@@ -91,10 +92,11 @@ impl Propagator {
     pub fn decide(&mut self, l: Lit)
         requires within { l.var < self.old.width }
         requires is_open { IsOpen self.old.trail l }
-        ensures { self.new ≡ with_decision self.old l }
+        ensures decided { self.new ≡ with_decision self.old l }
+        ensures decisions { decisions self.new ≡ decisions self.old ++ l ∷ [] }
     {
-        let ended = self.head == self.row.count();
-        self.row.set(
+        let ended = self.head == self.assignment.count();
+        self.assignment.set(
             l,
             Cause {
                 reason: None,
@@ -114,21 +116,21 @@ impl Propagator {
     {
         if let Some(clause) = set_loose(
             self.watched.clauses(),
-            &mut self.row,
+            &mut self.assignment,
             self.loose.as_slice(),
         ) {
             return Some(clause);
         }
-        run(&mut self.watched, &mut self.row, &mut self.head)
+        run(&mut self.watched, &mut self.assignment, &mut self.head)
     }
 
     /// Takes back what was set from that place of the trail on. It is quickest where propagation had ended there.
     pub fn undo_to(&mut self, place: usize)
         ensures { self.new ≡ undone self.old place }
     {
-        if place < self.row.count() {
-            self.head = last_end(&self.row, place);
-            self.row.undo_to(place);
+        if place < self.assignment.count() {
+            self.head = last_end(&self.assignment, place);
+            self.assignment.undo_to(place);
         }
     }
 
@@ -150,9 +152,10 @@ impl Propagator {
     /// How the literal stands.
     pub fn value(&self, l: Lit) -> Truth
         requires { l.var < self.now.width }
-        ensures { StandsAs self.now.trail l result }
+        ensures stands { StandsAs self.now.trail l result }
+        ensures follows { FollowsAs self.now l result }
     {
-        self.row.value(l)
+        self.assignment.value(l)
     }
 
     /// How many literals are set: a place to which `undo_to` can go back.
@@ -162,7 +165,7 @@ impl Propagator {
         ensures consistent { IsConsistent self.now.trail }
         ensures justified { IsJustified self.now.clauses self.now.trail self.now.reasons }
     {
-        self.row.count()
+        self.assignment.count()
     }
 
     /// The literal at that place of the trail.
@@ -170,7 +173,7 @@ impl Propagator {
         requires { place < length self.now.trail }
         ensures { slice_get self.now.trail place ≡ Some result }
     {
-        self.row.nth(place)
+        self.assignment.nth(place)
     }
 
     /// The number of the clause that set the literal at that place, and none where it was decided.
@@ -179,18 +182,18 @@ impl Propagator {
         ensures is { slice_get self.now.reasons place ≡ Some result }
         ensures explains { IfSome result (λ c. ExplainsPlace self.now place c) }
     {
-        self.row.cause(place).reason
+        self.assignment.cause(place).reason
     }
 }
 
 /// The last place up to this one at which propagation had ended, or the start.
-fn last_end(row: &Assignment, place: usize) -> usize
-    requires { place < length row.now.trail }
-    ensures { IsEnd row.now.causes place result }
+fn last_end(assignment: &Assignment, place: usize) -> usize
+    requires { place < length assignment.now.trail }
+    ensures { IsEnd assignment.now.causes place result }
 {
     let mut end = place;
     while end > 0 {
-        if row.cause(end).ended {
+        if assignment.cause(end).ended {
             return end;
         }
         end -= 1;

@@ -1,29 +1,27 @@
 -- Each hint moves the question to the hints after it.
-use Rattle.std.proofs.Common.{◌≡◌, ◌+◌, ◌∷◌, false, List, subst, sym, ◌∙◌, add-one, get_or, drop, drop-cons}
-use Rattle.std.specs.Prelude.{◌↔◌, IsTrue}
+use Rattle.std.proofs.Common.{◌≡◌, ◌+◌, ◌∷◌, List, subst, sym, ◌∙◌, add-one, get_or, drop, drop-cons}
 use Rattle.cnf_core.specs.declared.formula.Lit.{Lit}
 use Rattle.refutation_checker.specs.Hints.{HintsConflict}
-use Rattle.refutation_checker.proofs.HintSteps.{hint-onward, hint-back, hint-other}
+use Rattle.refutation_checker.proofs.HintsLemmas.{hint-onward, hint-back, hint-other}
 use Rattle.refutation_checker.proofs.hints.hints_conflict.Goals as goal
 
 pub returns-in-Other-clause-answer : goal.returns-in-Other-clause-answer
 returns-in-Other-clause-answer c =
     let hints = c.args.hints.now in
     let i = c.loop-hint.hint-index in
-    let trail = c.loop-hint.row.trail in
+    let trail = c.loop-hint.assignment.trail in
     let here : drop i hints ≡ get_or hints i 0 ∷ drop (i + 1) hints = rw add-one (drop-cons hints i 0 c.loop-hint-test.true) in
-    let none : HintsConflict c.clauses-clauses.result.now trail (drop i hints) → ⊥ =
-    λ all. hint-other c.clauses-clauses.result.now trail (get_or hints i 0) (drop (i + 1) hints) c.in-Other.ensures
-    (subst (HintsConflict c.clauses-clauses.result.now trail) here all) in
-    subst (λ (clauses : List (List Lit)). IsTrue false ↔ HintsConflict clauses c.args.row.now.trail hints) c.clauses-clauses.ensures.are
+    let none : HintsConflict c.args.clauses.now trail (drop i hints) → ⊥ =
+    λ all. hint-other c.args.clauses.now trail (get_or hints i 0) (drop (i + 1) hints) c.in-Other.ensures
+    (subst (HintsConflict c.args.clauses.now trail) here all) in
     ((λ yes. cc), (λ all. absurd (none (c.loop-hint.invariant.back all))))
 
 pub loop-hint-preserved : goal.loop-hint-preserved
 loop-hint-preserved c =
-    let clauses = c.clauses-clauses.result.now in
+    let clauses = c.args.clauses.now in
     let hints = c.args.hints.now in
     let i = c.loop-hint.hint-index in
-    let trail = c.loop-hint.row.trail in
+    let trail = c.loop-hint.assignment.trail in
     let here : drop i hints ≡ get_or hints i 0 ∷ drop (i + 1) hints = rw add-one (drop-cons hints i 0 c.loop-hint-test.true) in
     let after = c.set.ensures.trail in
     record {

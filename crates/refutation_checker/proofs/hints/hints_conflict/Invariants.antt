@@ -5,7 +5,7 @@ use Rattle.refutation_checker.proofs.hints.hints_conflict.Given as goal
 
 abbrev pub invariant-loop-hint : goal.invariant-loop-hint
 invariant-loop-hint l = record {
-  width : l.row.width ≡ l.initial.row.width;
-  onward : HintsConflict l.clauses l.row.trail (drop l.hint-index l.hints) → HintsConflict l.clauses l.initial.row.trail l.hints;
-  back : HintsConflict l.clauses l.initial.row.trail l.hints → HintsConflict l.clauses l.row.trail (drop l.hint-index l.hints);
+  width : l.assignment.width ≡ l.initial.assignment.width;
+  onward : HintsConflict l.clauses l.assignment.trail (drop l.hint-index l.hints) → HintsConflict l.clauses l.initial.assignment.trail l.hints;
+  back : HintsConflict l.clauses l.initial.assignment.trail l.hints → HintsConflict l.clauses l.assignment.trail (drop l.hint-index l.hints);
 }

@@ -22,27 +22,27 @@ true_in : (trail clause : List Lit) (l : Lit) → Contains clause l → Contains
 true_in trail clause l (k, inside, at) is = (k, l, inside, at, is)
 
 pub returns-in-True-clause-implies : goal.returns-in-True-clause-implies
-returns-in-True-clause-implies c = implies_none c.args.clauses.now c.args.row.now.trail c.args.row.now.causes
+returns-in-True-clause-implies c = implies_none c.args.clauses.now c.args.assignment.now.trail c.args.assignment.now.causes
 
 pub returns-in-False-clause-implies : goal.returns-in-False-clause-implies
-returns-in-False-clause-implies c = implies_none c.args.clauses.now c.args.row.now.trail c.args.row.now.causes
+returns-in-False-clause-implies c = implies_none c.args.clauses.now c.args.assignment.now.trail c.args.assignment.now.causes
 
 pub returns-in-True-clause-is_true : goal.returns-in-True-clause-is_true
 returns-in-True-clause-is_true c =
     let stands = first_stands c.args.clauses.now c.args.number c.as_slice.result.now c.index-clauses-number.result c.in-Some.l.now c.requires.loose.0 c.as_slice.ensures c.index-clauses-number.is c.in-Some.ensures.value in
-    true_in c.args.row.now.trail (get_or c.args.clauses.now c.args.number []) c.in-Some.l.now stands c.in-True.ensures.0
+    true_in c.args.assignment.now.trail (get_or c.args.clauses.now c.args.number []) c.in-Some.l.now stands c.in-True.ensures.0
 
 pub returns-in-False-clause-falsified : goal.returns-in-False-clause-falsified
 returns-in-False-clause-falsified c =
     let clause = get_or c.args.clauses.now c.args.number [] in
     let stands = first_stands c.args.clauses.now c.args.number c.as_slice.result.now c.index-clauses-number.result c.in-Some.l.now c.requires.loose.0 c.as_slice.ensures c.index-clauses-number.is c.in-Some.ensures.value in
-    λ k d inside. subst (IsFalse c.args.row.now.trail) (c.requires.loose.1 [] c.in-Some.l.now (get_or clause k d) stands (Contains-get_or clause k d inside)) c.in-False.ensures.0
+    λ k d inside. subst (IsFalse c.args.assignment.now.trail) (c.requires.loose.1 [] c.in-Some.l.now (get_or clause k d) stands (Contains-get_or clause k d inside)) c.in-False.ensures.0
 
 pub returns-in-Open-clause-implies : goal.returns-in-Open-clause-implies
 returns-in-Open-clause-implies c =
     let clauses = c.args.clauses.now in
-    let trail = c.args.row.now.trail in
-    let causes = c.args.row.now.causes in
+    let trail = c.args.assignment.now.trail in
+    let causes = c.args.assignment.now.causes in
     let n = c.args.number in
     let l = c.in-Some.l.now in
     let clause = get_or clauses n [] in
@@ -61,4 +61,4 @@ returns-in-Open-clause-is_true c =
     let l = c.in-Some.l.now in
     let stands = first_stands c.args.clauses.now c.args.number c.as_slice.result.now c.index-clauses-number.result l c.requires.loose.0 c.as_slice.ensures c.index-clauses-number.is c.in-Some.ensures.value in
     true_in c.set.new.self.trail (get_or c.args.clauses.now c.args.number []) l stands
-    (subst (λ (t : List Lit). Contains t l) (sym c.set.ensures.trail) (Contains-push c.args.row.now.trail l))
+    (subst (λ (t : List Lit). Contains t l) (sym c.set.ensures.trail) (Contains-push c.args.assignment.now.trail l))

@@ -6,7 +6,7 @@ use Rattle.unit_propagation.proofs.loose.set_loose.Given as goal
 
 abbrev pub invariant-loop-number : goal.invariant-loop-number
 invariant-loop-number l = record {
-  width : l.row.width ≡ l.initial.row.width;
-  implies : Implies l.clauses l.initial.row.trail l.initial.row.causes l.row.trail l.row.causes;
-  are_true : AreTrue l.clauses (take l.number-index l.loose) l.row.trail;
+  width : l.assignment.width ≡ l.initial.assignment.width;
+  implies : Implies l.clauses l.initial.assignment.trail l.initial.assignment.causes l.assignment.trail l.assignment.causes;
+  are_true : AreTrue l.clauses (take l.number-index l.loose) l.assignment.trail;
 }

@@ -14,7 +14,7 @@ pub loop-l-preserved : goal.loop-l-preserved
 loop-l-preserved c =
     let clause = c.args.clause.now in
     let i = c.loop-l.l-index in
-    let trail = c.args.row.now.trail in
+    let trail = c.args.assignment.now.trail in
     let x = get_or clause i no_lit in
     let push : (x ≢ c.args.other → IsFalse trail x) → All (λ k. k ≢ c.args.other → IsFalse trail k) (take (i + 1) clause) = λ h.
     subst (All (λ k. k ≢ c.args.other → IsFalse trail k)) (sym (take_more clause i no_lit c.loop-l-test.true))
@@ -26,4 +26,4 @@ loop-l-preserved c =
 
 pub returns-clause-none : goal.returns-clause-none
 returns-clause-none c =
-    subst (All (λ k. k ≢ c.args.other → IsFalse c.args.row.now.trail k)) (take_all c.loop-l.l-index c.args.clause.now c.loop-l-test.false) c.loop-l.invariant
+    subst (All (λ k. k ≢ c.args.other → IsFalse c.args.assignment.now.trail k)) (take_all c.loop-l.l-index c.args.clause.now c.loop-l-test.false) c.loop-l.invariant

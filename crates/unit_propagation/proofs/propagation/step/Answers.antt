@@ -46,7 +46,7 @@ returns-in_default-clause-seen c =
     let n = c.nth-number.result in
     let number = at_place w c.args.falsified c.args.place n c.nth-number.ensures.is in (
       refl,
-      implies_none w.clauses c.args.row.now.trail c.args.row.now.causes,
+      implies_none w.clauses c.args.assignment.now.trail c.args.assignment.now.causes,
       inl (λ p. subst (λ (k : ℕ). watches (get_or w.pairs k p) c.args.falsified ≡ false) number
           (ap (λ (q : Pair). watches q c.args.falsified) (get_or_from_slice_get w.pairs n c.pair.result p c.pair.ensures.is) ∙ c.in_default.ensures.not_watched)),
     )
@@ -63,10 +63,10 @@ pub returns-in-True-clause-seen : goal.returns-in-True-clause-seen
 returns-in-True-clause-seen c =
     let w = c.args.watched.now in
     let n = c.nth-number.result in
-    let trail = c.args.row.now.trail in
+    let trail = c.args.assignment.now.trail in
     let number = at_place w c.args.falsified c.args.place n c.nth-number.ensures.is in (
       refl,
-      implies_none w.clauses trail c.args.row.now.causes,
+      implies_none w.clauses trail c.args.assignment.now.causes,
       inr (λ clause. subst (λ (k : ℕ). Any (Contains trail) (get_or w.clauses k clause)) number
           (true_in trail (get_or w.clauses n clause) c.in-Some.other
           (stands_other w n c.pair.result c.args.falsified c.in-Some.other c.pair.ensures.indexed c.nth-number.ensures.exists c.pair.ensures.is c.in-Some.ensures.watched clause) c.in-True.ensures.0)),
@@ -98,7 +98,7 @@ rewatch-requires c =
     record {
       from_within = c.requires.within;
       to_within = within_clause w n c.in-Some-find_other.to c.pair.ensures.indexed c.nth-number.ensures.exists (subst (λ (k : List Lit). Contains k c.in-Some-find_other.to) (same []) free.stands);
-      moves = moves_watch w c.args.row.now.trail c.as_slice.result.now n c.args.place c.pair.result c.args.falsified c.in-Some.other c.in-Some-find_other.to (omega (arith, c.nth-number.ensures.exists))
+      moves = moves_watch w c.args.assignment.now.trail c.as_slice.result.now n c.args.place c.pair.result c.args.falsified c.in-Some.other c.in-Some-find_other.to (omega (arith, c.nth-number.ensures.exists))
           c.nth-number.ensures.is c.pair.ensures.is c.in-Some.ensures.watched free c.requires.falsified same;
     }
 
@@ -124,14 +124,14 @@ returns-in-Some-find_other c =
           list = rw (← number) c.rewatch.ensures.list;
         },
       );
-      row_width = refl;
+      assignment_width = refl;
     }
 
 pub returns-in-False : goal.returns-in-False
 returns-in-False c =
     let w = c.args.watched.now in
     let n = c.nth-number.result in
-    let trail = c.args.row.now.trail in
+    let trail = c.args.assignment.now.trail in
     let number = at_place w c.args.falsified c.args.place n c.nth-number.ensures.is in
     let same = λ (clause : List Lit). clause_is c.clauses.result.now w.clauses n c.as_slice.result.now c.index-clauses-number.result clause c.clauses.ensures.are c.nth-number.ensures.exists c.as_slice.ensures c.index-clauses-number.is in
     let all : All (IsFalse trail) c.as_slice.result.now = λ k d inside. elim (lit-cases (get_or c.as_slice.result.now k d) c.in-Some.other) [
@@ -140,7 +140,7 @@ returns-in-False c =
     ] in
     record {
       seen = (refl, refl, λ clause. subst (λ (k : ℕ). All (IsFalse trail) (get_or w.clauses k clause)) number (subst (All (IsFalse trail)) (same clause) all));
-      row_width = refl;
+      assignment_width = refl;
     }
 
 pub set-requires : goal.set-requires
@@ -151,15 +151,15 @@ set-requires c =
     let below = within_clause w n c.in-Some.other c.pair.ensures.indexed c.nth-number.ensures.exists stands in
     record {
       inside = omega (arith, c.requires.width);
-      is_open = open_from c.args.row.now.trail c.in-Some.other c.value-truth.result c.value-truth.ensures c.in_default-truth.not-True c.in_default-truth-2.not-False;
+      is_open = open_from c.args.assignment.now.trail c.in-Some.other c.value-truth.result c.value-truth.ensures c.in_default-truth.not-True c.in_default-truth-2.not-False;
     }
 
 pub returns : goal.returns
 returns c =
     let w = c.args.watched.now in
     let n = c.nth-number.result in
-    let trail = c.args.row.now.trail in
-    let causes = c.args.row.now.causes in
+    let trail = c.args.assignment.now.trail in
+    let causes = c.args.assignment.now.causes in
     let other = c.in-Some.other in
     let number = at_place w c.args.falsified c.args.place n c.nth-number.ensures.is in
     let same = λ (clause : List Lit). clause_is c.clauses.result.now w.clauses n c.as_slice.result.now c.index-clauses-number.result clause c.clauses.ensures.are c.nth-number.ensures.exists c.as_slice.ensures c.index-clauses-number.is in
@@ -181,5 +181,5 @@ returns c =
         inr (λ clause. subst (λ (k : ℕ). Any (Contains c.set.new.self.trail) (get_or w.clauses k clause)) number
             (true_in c.set.new.self.trail (get_or w.clauses n clause) other (stands clause) is)),
       );
-      row_width = c.set.ensures.width;
+      assignment_width = c.set.ensures.width;
     }

@@ -5,7 +5,7 @@ use Rattle.cnf_core.specs.Truth.{IsUnsatisfiable}
 use Rattle.refutation_checker.specs.Acceptance.{HasEmptyStep}
 use Rattle.refutation_checker.specs.Derivation.{Derivation}
 use Rattle.refutation_checker.specs.Checked.{derivation_of}
-use Rattle.refutation_checker.proofs.Sound.{unsatisfiable-refuted}
+use Rattle.refutation_checker.proofs.AcceptanceLaws.{unsatisfiable-refuted}
 use Rattle.refutation_checker.proofs.checker.Checker.refuted.Goals as goal
 
 pub returns-clause-sound : goal.returns-clause-sound

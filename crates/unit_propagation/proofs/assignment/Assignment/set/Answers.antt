@@ -31,8 +31,8 @@ agrees c =
     let width = ap (λ (a : Assigned). a.width) c.self.view_is in
     let is_open = subst (λ (t : List Lit). IsOpen t c.args.l) trail c.requires.is_open in
     let after = agrees_set c.self.inside.values.items c.self.inside.trail.items c.args.l c.self.invariant.agrees (omega arith) is_open in
-    let row = set c.self.inside.values.items c.args.l.var (truth_of c.args.l.positive) in
-    let pushed : Agrees row c.push.new.self.items = subst (Agrees row) (sym c.in_default.ensures.items) after in
+    let assignment = set c.self.inside.values.items c.args.l.var (truth_of c.args.l.positive) in
+    let pushed : Agrees assignment c.push.new.self.items = subst (Agrees assignment) (sym c.in_default.ensures.items) after in
     subst (λ (t : Truth). Agrees (set c.self.inside.values.items c.args.l.var t) c.push.new.self.items) (sym c.from.ensures) pushed
 
 pub invariant_of-self : goal.invariant_of-self

@@ -59,69 +59,69 @@ pub invariant_of-self : goal.invariant_of-self
 invariant_of-self c =
     let inside = c.self.inside in
     let w = inside.watched in
-    let new = c.set_loose.new.row in
-    let implies = subst (λ (cs : List (List Lit)). Implies cs inside.row.trail inside.row.causes new.trail new.causes) c.clauses.ensures.are c.in-Some.ensures.implies in (
+    let new = c.set_loose.new.assignment in
+    let implies = subst (λ (cs : List (List Lit)). Implies cs inside.assignment.trail inside.assignment.causes new.trail new.causes) c.clauses.ensures.are c.in-Some.ensures.implies in (
       omega (arith, c.self.invariant.0, c.in-Some.ensures.width),
-      state_set w.clauses w.pairs inside.row.trail new.trail inside.row.causes new.causes inside.head inside.loose.items c.self.invariant.1 implies,
+      state_set w.clauses w.pairs inside.assignment.trail new.trail inside.assignment.causes new.causes inside.head inside.loose.items c.self.invariant.1 implies,
     )
 
 pub returns-in-Some-clause-continues : goal.returns-in-Some-clause-continues
 returns-in-Some-clause-continues c =
     let inside = c.self.inside in
     let w = inside.watched in
-    let new = c.set_loose.new.row in
-    let implies = subst (λ (cs : List (List Lit)). Implies cs inside.row.trail inside.row.causes new.trail new.causes) c.clauses.ensures.are c.in-Some.ensures.implies in
-    continues_is c.args.self.now w.width w.clauses inside.row.trail new.trail inside.row.causes new.causes w.width w.clauses c.self.view_is refl refl c.self.invariant.1.sized implies
+    let new = c.set_loose.new.assignment in
+    let implies = subst (λ (cs : List (List Lit)). Implies cs inside.assignment.trail inside.assignment.causes new.trail new.causes) c.clauses.ensures.are c.in-Some.ensures.implies in
+    continues_is c.args.self.now w.width w.clauses inside.assignment.trail new.trail inside.assignment.causes new.causes w.width w.clauses c.self.view_is refl refl c.self.invariant.1.sized implies
 
 pub returns-in-Some-clause-conflict : goal.returns-in-Some-clause-conflict
 returns-in-Some-clause-conflict c =
-    subst (λ (cs : List (List Lit)). IsFalseClause cs c.set_loose.new.row.trail c.in-Some.clause) c.clauses.ensures.are c.in-Some.ensures.falsified
+    subst (λ (cs : List (List Lit)). IsFalseClause cs c.set_loose.new.assignment.trail c.in-Some.clause) c.clauses.ensures.are c.in-Some.ensures.falsified
 
 pub returns-in-Some-clause-conflicts : goal.returns-in-Some-clause-conflicts
 returns-in-Some-clause-conflicts c =
     let inside = c.self.inside in
     let w = inside.watched in
-    let new = c.set_loose.new.row in
-    let implies = subst (λ (cs : List (List Lit)). Implies cs inside.row.trail inside.row.causes new.trail new.causes) c.clauses.ensures.are c.in-Some.ensures.implies in
+    let new = c.set_loose.new.assignment in
+    let implies = subst (λ (cs : List (List Lit)). Implies cs inside.assignment.trail inside.assignment.causes new.trail new.causes) c.clauses.ensures.are c.in-Some.ensures.implies in
     let falsified = subst (λ (cs : List (List Lit)). IsFalseClause cs new.trail c.in-Some.clause) c.clauses.ensures.are c.in-Some.ensures.falsified in
     subst (λ (p : Propagation). Conflicts p.clauses (decisions p)) c.self.view_is
-    (conflicts_false w.clauses (decided inside.row.trail (reasons_of inside.row.causes)) new.trail c.in-Some.clause
-    (are_set_since w.clauses w.pairs inside.row.trail new.trail inside.row.causes new.causes inside.head inside.loose.items c.self.invariant.1 implies) falsified)
+    (conflicts_false w.clauses (decided inside.assignment.trail (reasons_of inside.assignment.causes)) new.trail c.in-Some.clause
+    (are_set_since w.clauses w.pairs inside.assignment.trail new.trail inside.assignment.causes new.causes inside.head inside.loose.items c.self.invariant.1 implies) falsified)
 
 pub run-requires-clause-ready : goal.run-requires-clause-ready
 run-requires-clause-ready c =
     let inside = c.self.inside in
     let w = inside.watched in
-    let new = c.set_loose.new.row in
-    let implies = subst (λ (cs : List (List Lit)). Implies cs inside.row.trail inside.row.causes new.trail new.causes) c.clauses.ensures.are c.in_default.ensures.implies in
-    (state_set w.clauses w.pairs inside.row.trail new.trail inside.row.causes new.causes inside.head inside.loose.items c.self.invariant.1 implies).ready
+    let new = c.set_loose.new.assignment in
+    let implies = subst (λ (cs : List (List Lit)). Implies cs inside.assignment.trail inside.assignment.causes new.trail new.causes) c.clauses.ensures.are c.in_default.ensures.implies in
+    (state_set w.clauses w.pairs inside.assignment.trail new.trail inside.assignment.causes new.causes inside.head inside.loose.items c.self.invariant.1 implies).ready
 
 pub run-requires-clause-loose : goal.run-requires-clause-loose
 run-requires-clause-loose c =
     let inside = c.self.inside in
     let w = inside.watched in
-    let new = c.set_loose.new.row in
+    let new = c.set_loose.new.assignment in
     let are = subst (λ (cs : List (List Lit)). AreTrue cs c.as_slice.result.now new.trail) c.clauses.ensures.are c.in_default.ensures.are_true in
     loose_true w.clauses w.pairs inside.loose.items new.trail c.self.invariant.1.listed (subst (λ (ls : List ℕ). AreTrue w.clauses ls new.trail) c.as_slice.ensures.value are)
 
-implied : (c : goal.After-run) → Implies c.self.inside.watched.clauses c.self.inside.row.trail c.self.inside.row.causes c.run.new.row.trail c.run.new.row.causes
+implied : (c : goal.After-run) → Implies c.self.inside.watched.clauses c.self.inside.assignment.trail c.self.inside.assignment.causes c.run.new.assignment.trail c.run.new.assignment.causes
 implied c =
     let inside = c.self.inside in
-    let mid = c.set_loose.new.row in
-    let end = c.run.new.row in
-    implies_then inside.watched.clauses inside.row.trail mid.trail end.trail inside.row.causes mid.causes end.causes
-    (subst (λ (cs : List (List Lit)). Implies cs inside.row.trail inside.row.causes mid.trail mid.causes) c.clauses.ensures.are c.in_default.ensures.implies) c.run.ensures.implies
+    let mid = c.set_loose.new.assignment in
+    let end = c.run.new.assignment in
+    implies_then inside.watched.clauses inside.assignment.trail mid.trail end.trail inside.assignment.causes mid.causes end.causes
+    (subst (λ (cs : List (List Lit)). Implies cs inside.assignment.trail inside.assignment.causes mid.trail mid.causes) c.clauses.ensures.are c.in_default.ensures.implies) c.run.ensures.implies
 
 pub invariant_of-self-2 : goal.invariant_of-self-2
 invariant_of-self-2 c =
     let inside = c.self.inside in
     let w = inside.watched in
-    let mid = c.set_loose.new.row in
-    let end = c.run.new.row in
-    let first = subst (λ (cs : List (List Lit)). Implies cs inside.row.trail inside.row.causes mid.trail mid.causes) c.clauses.ensures.are c.in_default.ensures.implies in
-    let s = state_set w.clauses w.pairs inside.row.trail mid.trail inside.row.causes mid.causes inside.head inside.loose.items c.self.invariant.1 first in
+    let mid = c.set_loose.new.assignment in
+    let end = c.run.new.assignment in
+    let first = subst (λ (cs : List (List Lit)). Implies cs inside.assignment.trail inside.assignment.causes mid.trail mid.causes) c.clauses.ensures.are c.in_default.ensures.implies in
+    let s = state_set w.clauses w.pairs inside.assignment.trail mid.trail inside.assignment.causes mid.causes inside.head inside.loose.items c.self.invariant.1 first in
     let new_pairs = c.run.new.watched.pairs in (
-      omega (arith, c.self.invariant.0, c.in_default.ensures.width, c.run.ensures.width, c.run.ensures.row_width),
+      omega (arith, c.self.invariant.0, c.in_default.ensures.width, c.run.ensures.width, c.run.ensures.assignment_width),
       state_grows w.clauses c.run.new.watched.clauses new_pairs new_pairs end.trail end.causes c.run.new.head inside.loose.items (sym c.run.ensures.clauses) refl
           (state_continues w.clauses w.pairs new_pairs mid.trail end.trail mid.causes end.causes inside.head c.run.new.head inside.loose.items s c.run.ensures.implies c.run.ensures.keeps
           (lists_kept w.pairs new_pairs inside.loose.items c.run.ensures.keeps.size c.run.ensures.keeps.pairs s.listed) c.run.ensures.ready c.run.ensures.head),
@@ -131,55 +131,55 @@ pub returns-clause-continues : goal.returns-clause-continues
 returns-clause-continues c =
     let inside = c.self.inside in
     let w = inside.watched in
-    let end = c.run.new.row in
-    continues_is c.args.self.now w.width w.clauses inside.row.trail end.trail inside.row.causes end.causes c.run.new.watched.width c.run.new.watched.clauses c.self.view_is
+    let end = c.run.new.assignment in
+    continues_is c.args.self.now w.width w.clauses inside.assignment.trail end.trail inside.assignment.causes end.causes c.run.new.watched.width c.run.new.watched.clauses c.self.view_is
     c.run.ensures.width c.run.ensures.clauses c.self.invariant.1.sized (implied c)
 
 pub returns-clause-conflicts : goal.returns-clause-conflicts
 returns-clause-conflicts c =
     let inside = c.self.inside in
     let w = inside.watched in
-    let end = c.run.new.row in
+    let end = c.run.new.assignment in
     let Q = Conflicts c.args.self.now.clauses (decisions c.args.self.now) in
     if_some c.run.result (λ k. IsFalseClause w.clauses end.trail k) Q
     (λ k falsified. subst (λ (p : Propagation). Conflicts p.clauses (decisions p)) c.self.view_is
-    (conflicts_false w.clauses (decided inside.row.trail (reasons_of inside.row.causes)) end.trail k
-    (are_set_since w.clauses w.pairs inside.row.trail end.trail inside.row.causes end.causes inside.head inside.loose.items c.self.invariant.1 (implied c)) falsified))
+    (conflicts_false w.clauses (decided inside.assignment.trail (reasons_of inside.assignment.causes)) end.trail k
+    (are_set_since w.clauses w.pairs inside.assignment.trail end.trail inside.assignment.causes end.causes inside.head inside.loose.items c.self.invariant.1 (implied c)) falsified))
     c.run.ensures.falsified
 
-left : (c : goal.After-run) → c.run.new.head ≡ length c.run.new.row.trail → IsIndexed c.run.new.watched.width c.run.new.watched.clauses c.run.new.watched.pairs c.run.new.watched.lists →
-    IsConsistent c.run.new.row.trail → All (SaysNothing c.run.new.row.trail) c.self.inside.watched.clauses
+left : (c : goal.After-run) → c.run.new.head ≡ length c.run.new.assignment.trail → IsIndexed c.run.new.watched.width c.run.new.watched.clauses c.run.new.watched.pairs c.run.new.watched.lists →
+    IsConsistent c.run.new.assignment.trail → All (SaysNothing c.run.new.assignment.trail) c.self.inside.watched.clauses
 left c at_end indexed consistent =
-    nothing_left c.run.new.watched c.self.inside.watched.clauses c.run.new.row.trail c.run.new.head c.run.ensures.clauses c.run.ensures.ready c.run.ensures.loose at_end indexed consistent
+    nothing_left c.run.new.watched c.self.inside.watched.clauses c.run.new.assignment.trail c.run.new.head c.run.ensures.clauses c.run.ensures.ready c.run.ensures.loose at_end indexed consistent
 
 pub returns-clause-all_set : goal.returns-clause-all_set
 returns-clause-all_set c =
     let inside = c.self.inside in
     let w = inside.watched in
-    let end = c.run.new.row in
+    let end = c.run.new.assignment in
     if_none c.run.result (c.run.new.head ≡ length end.trail) (IsIndexed c.run.new.watched.width c.run.new.watched.clauses c.run.new.watched.pairs c.run.new.watched.lists) (IsConsistent end.trail)
     (AreAllSet c.args.self.now.clauses (decisions c.args.self.now) end.trail)
     (λ at_end indexed consistent. subst (λ (p : Propagation). AreAllSet p.clauses (decisions p) end.trail) c.self.view_is
-    (all_set_fixed w.clauses (decided inside.row.trail (reasons_of inside.row.causes)) end.trail (decided_since w.clauses inside.row.trail end.trail inside.row.causes end.causes (implied c))
-    (are_set_since w.clauses w.pairs inside.row.trail end.trail inside.row.causes end.causes inside.head inside.loose.items c.self.invariant.1 (implied c)) (left c at_end indexed consistent)))
+    (all_set_fixed w.clauses (decided inside.assignment.trail (reasons_of inside.assignment.causes)) end.trail (decided_since w.clauses inside.assignment.trail end.trail inside.assignment.causes end.causes (implied c))
+    (are_set_since w.clauses w.pairs inside.assignment.trail end.trail inside.assignment.causes end.causes inside.head inside.loose.items c.self.invariant.1 (implied c)) (left c at_end indexed consistent)))
     c.run.ensures.ended c.run.ensures.indexed c.run.ensures.consistent
 
 pub returns-clause-none : goal.returns-clause-none
 returns-clause-none c =
     let inside = c.self.inside in
     let w = inside.watched in
-    let end = c.run.new.row in
+    let end = c.run.new.assignment in
     if_none c.run.result (c.run.new.head ≡ length end.trail) (IsIndexed c.run.new.watched.width c.run.new.watched.clauses c.run.new.watched.pairs c.run.new.watched.lists) (IsConsistent end.trail)
     (Conflicts c.args.self.now.clauses (decisions c.args.self.now) → ⊥)
-    (λ at_end indexed consistent conflicts. no_conflict_fixed w.clauses (decided inside.row.trail (reasons_of inside.row.causes)) end.trail
-    (decided_since w.clauses inside.row.trail end.trail inside.row.causes end.causes (implied c)) (left c at_end indexed consistent)
+    (λ at_end indexed consistent conflicts. no_conflict_fixed w.clauses (decided inside.assignment.trail (reasons_of inside.assignment.causes)) end.trail
+    (decided_since w.clauses inside.assignment.trail end.trail inside.assignment.causes end.causes (implied c)) (left c at_end indexed consistent)
     (subst (λ (p : Propagation). Conflicts p.clauses (decisions p)) (sym c.self.view_is) conflicts))
     c.run.ensures.ended c.run.ensures.indexed c.run.ensures.consistent
 
 pub returns-clause-satisfied : goal.returns-clause-satisfied
 returns-clause-satisfied c =
     let w = c.self.inside.watched in
-    let end = c.run.new.row in
+    let end = c.run.new.assignment in
     if_none c.run.result (c.run.new.head ≡ length end.trail) (IsIndexed c.run.new.watched.width c.run.new.watched.clauses c.run.new.watched.pairs c.run.new.watched.lists) (IsConsistent end.trail)
     (IsTotal c.run.new.watched.clauses end.trail → HasTrueLiterals c.run.new.watched.clauses end.trail)
     (λ at_end indexed consistent. total_satisfied c.run.new.watched.clauses end.trail

@@ -11,9 +11,9 @@ pub invariant_of-self : goal.invariant_of-self
 invariant_of-self c =
     let inside = c.self.inside in (
       omega (arith, c.self.invariant.0, c.undo_to.ensures.width),
-      state_is inside.watched.clauses inside.watched.pairs (take c.args.place inside.row.trail) c.undo_to.new.self.trail (take c.args.place inside.row.causes) c.undo_to.new.self.causes
+      state_is inside.watched.clauses inside.watched.pairs (take c.args.place inside.assignment.trail) c.undo_to.new.self.trail (take c.args.place inside.assignment.causes) c.undo_to.new.self.causes
           c.last_end-self-inside.result inside.loose.items (sym c.undo_to.ensures.trail) (sym c.undo_to.ensures.causes)
-          (state_undone inside.watched.clauses inside.watched.pairs inside.row.trail inside.row.causes inside.head c.args.place c.last_end-self-inside.result inside.loose.items c.self.invariant.1
+          (state_undone inside.watched.clauses inside.watched.pairs inside.assignment.trail inside.assignment.causes inside.head c.args.place c.last_end-self-inside.result inside.loose.items c.self.invariant.1
           (omega (arith, c.if-place-count.true, c.count.ensures.count)) c.last_end-self-inside.ensures),
     )
 
@@ -21,6 +21,6 @@ pub returns-then-place-count : goal.returns-then-place-count
 returns-then-place-count c =
     let inside = c.self.inside in
     let place = c.args.place in
-    same_seen inside.watched.width inside.watched.clauses c.undo_to.new.self.trail (take place inside.row.trail) (reasons_of c.undo_to.new.self.causes) (take place (reasons_of inside.row.causes))
-    c.undo_to.ensures.trail (ap reasons_of c.undo_to.ensures.causes ∙ sym (take-map (λ (k : Cause). k.reason) place inside.row.causes))
+    same_seen inside.watched.width inside.watched.clauses c.undo_to.new.self.trail (take place inside.assignment.trail) (reasons_of c.undo_to.new.self.causes) (take place (reasons_of inside.assignment.causes))
+    c.undo_to.ensures.trail (ap reasons_of c.undo_to.ensures.causes ∙ sym (take-map (λ (k : Cause). k.reason) place inside.assignment.causes))
     ∙ ap (λ (p : Propagation). undone p place) c.self.view_is

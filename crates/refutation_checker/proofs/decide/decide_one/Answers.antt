@@ -1,8 +1,0 @@
--- A literal is open exactly where its variable is not on the trail.
-use Rattle.std.proofs.Common.{refl}
-use Rattle.refutation_checker.proofs.Apart.{apart-open}
-use Rattle.refutation_checker.proofs.decide.decide_one.Goals as goal
-
-pub returns-in-Open-clause-answer : goal.returns-in-Open-clause-answer
-returns-in-Open-clause-answer c =
-    ((λ _. apart-open c.args.row.now.trail c.args.l c.requires.apart c.in-Open.ensures), (λ _. refl))

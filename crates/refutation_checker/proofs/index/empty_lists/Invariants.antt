@@ -1,6 +1,0 @@
--- As many lists as the counter says.
-use Rattle.std.proofs.Common.{◌≡◌, length}
-use Rattle.refutation_checker.proofs.index.empty_lists.Given as goal
-
-abbrev pub invariant-loop : goal.invariant-loop
-invariant-loop l = length l.lists.items ≡ l.counter

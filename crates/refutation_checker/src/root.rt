@@ -1,0 +1,45 @@
+//! The root: the clauses of a formula in a propagator, with nothing decided.
+
+ghost use Rattle.std.specs.Prelude.{◌≡◌, ◌<◌, ◌^◌, [], false, All, IfOk, IsTrue};
+ghost use Rattle.cnf_core.specs.Propagation.{Conflicts};
+ghost use Rattle.unit_propagation.specs.Units.{IsWithin};
+ghost use Rattle.unit_propagation.specs.Propagation.{decisions};
+ghost use Rattle.refutation_checker.specs.Cubes.{IsSettled};
+
+use crate::copies::copy;
+use cnf_core::Clause;
+use std::alloc::{AllocError, Global};
+use unit_propagation::Propagator;
+
+/// The clauses over variables below `width`, and nothing set.
+pub fn root_of(alloc: Global, clauses: &[Clause], width: usize) -> Result<Propagator, AllocError>
+    requires bound { width < 2 ^ 62 }
+    requires within { All (IsWithin width) clauses.now }
+    ensures width { IfOk result (λ root. root.width ≡ width) }
+    ensures clauses { IfOk result (λ root. root.clauses ≡ clauses.now) }
+    ensures trail { IfOk result (λ root. root.trail ≡ []) }
+{
+    let mut root = Propagator::new(alloc);
+    root.grow(width)?;
+    for clause in clauses {
+        root.add_clause(copy(alloc, clause)?)?;
+    }
+    Ok(root)
+}
+
+/// Sets what follows under no decision, unless that conflicted before; whether it conflicts.
+pub fn settle(root: &mut Propagator, conflict: bool) -> bool
+    requires decides { conflict ≡ false → decisions root.old ≡ [] }
+    requires conflicts { IsTrue conflict → Conflicts root.old.clauses [] }
+    ensures settled { IsSettled root.new result }
+    ensures width { root.new.width ≡ root.old.width }
+    ensures clauses { root.new.clauses ≡ root.old.clauses }
+{
+    if conflict {
+        return true;
+    }
+    match root.propagate() {
+        Some(_) => true,
+        None => false,
+    }
+}
