@@ -2,4 +2,6 @@
 #![tactic(auto)]
 
 #[cfg(test)]
+mod scans;
+#[cfg(test)]
 mod words;

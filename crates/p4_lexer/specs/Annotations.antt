@@ -22,13 +22,13 @@ pub data Entry : Type 0 where
 abbrev pub words_among : List Item → List Placed
 words_among [] = []
 words_among (Word w ∷ items) = w ∷ words_among items
-words_among (Replaced place ∷ items) = words_among items
+words_among (Replaced name ∷ items) = words_among items
 
 -- of items that are dropped, the names that were replaced among them are still counted
 abbrev pub names_among : List Item → List Entry
 names_among [] = []
 names_among (Word w ∷ items) = names_among items
-names_among (Replaced place ∷ items) = Name place ∷ names_among items
+names_among (Replaced name ∷ items) = Name name.place ∷ names_among items
 
 abbrev pub IsSignOf : List ℕ → Placed → Type 0
 IsSignOf sign w = w.cut ≡ record { kind = SignPiece; bytes = sign }
@@ -68,7 +68,7 @@ IsDropped w = (w.cut.kind ≡ Annotation) × (w.cut.bytes ≢ codes "@defaultonl
 -- what the items leave: tokens, and the names that were replaced
 pub data Leaves : List Item → List Entry → Type 0 where
   none : Leaves [] []
-  name : (place : Span) (items : List Item) (entries : List Entry) → Leaves items entries → Leaves (Replaced place ∷ items) (Name place ∷ entries)
+  name : (w : Placed) (items : List Item) (entries : List Entry) → Leaves items entries → Leaves (Replaced w ∷ items) (Name w.place ∷ entries)
   plain : (w : Placed) (items : List Item) (entries : List Entry) → w.cut.kind ≢ Annotation → Leaves items entries → Leaves (Word w ∷ items) (Token (Plain w) ∷ entries)
   named : (w : Placed) (group items : List Item) (inside : List Placed) (text : List ℕ) (entries : List Entry)
       → IsAnnotationOf (codes "@name") w → IsGroup group inside → IsString inside text → Leaves items entries

@@ -1,5 +1,5 @@
 -- How a number is spelled, and what it stands for (P4-16, "Integer literals").
-use Rattle.std.specs.Prelude.{◌≡◌, ℕ, ◌≤◌, ◌^◌, ◌||◌, ◌==◌, IsTrue, List, [], ◌∷◌, ◌++◌, ◌⊎◌, Option, Some, None, IsSomeAnd}
+use Rattle.std.specs.Prelude.{◌≡◌, ℕ, ◌≤◌, ◌<◌, ◌^◌, ◌||◌, ◌==◌, IsTrue, List, [], ◌∷◌, ◌++◌, ◌⊎◌, Option, Some, None, IsSomeAnd}
 use Rattle.std.specs.List.{list_all, list_any}
 use Rattle.tg_base.specs.declared.literal.Literal.{Literal}
 use Rattle.tg_base.specs.declared.literal.IntType.{IntType}
@@ -63,7 +63,7 @@ plain_value (c ∷ letter ∷ w) = based_or (base_of letter) where
 
 -- a value of at most 128 bits is kept, and a larger one as too large
 abbrev pub IsValue : ℕ → IntValue → Type 0
-IsValue n (Exact v) = v ≡ n
+IsValue n (Exact v) = (v ≡ n) × (n < 2 ^ 128)
 IsValue n TooLarge = 2 ^ 128 ≤ n
 
 -- the type that a prefix gives

@@ -10,10 +10,10 @@ use Rattle.p4_lexer.specs.Cuts.{Cut}
 use Rattle.p4_lexer.specs.Scope.{Macro, macro_of}
 use Rattle.p4_lexer.specs.SourceWords.{Placed, SourceWord, is_word}
 
--- what comes of the source when names are replaced: a word, or the mark of a name that was replaced, at their place
+-- what comes of the source when names are replaced: a word that stays, or a name that was replaced
 pub data Item : Type 0 where
   Word : (word : Placed) → Item
-  Replaced : (place : Span) → Item
+  Replaced : (name : Placed) → Item
 
 -- the words of a macro, all at one place
 abbrev pub words_at : Span → List Cut → List Placed
@@ -36,7 +36,7 @@ pub data Gives (macros : List Macro) : List (List ℕ) → List Placed → List 
       → names_macro macros inside w ≡ Some m
       → Gives macros (m.name ∷ inside) (words_at w.place m.words) inner
       → Gives macros inside words items
-      → Gives macros inside (w ∷ words) (Replaced w.place ∷ inner ++ items)
+      → Gives macros inside (w ∷ words) (Replaced w ∷ inner ++ items)
 
 -- the words of the source give these items
 abbrev pub AreItems : List SourceWord → List Item → Type 0

@@ -1,26 +1,47 @@
-//! The words of a P4 source, as far as they are built: what begins at a place of a text, the first line of a text with
-//! its pieces, what a number stands for, which keyword, reserved word or sign a spelling is, and where a byte stands.
-//! `specs/` defines the tokens of a whole source in layers; no function meets the later ones (directives, macros,
-//! annotations, marks) yet, so a scan of whole sources is not built.
+//! The words of a P4 source: `scan` gives its tokens, each with its place, or the refusal of its deciding fault.
+//!
+//! `specs/` defines the tokens of a whole source in layers: pieces and places, lines and directives, words, macros,
+//! annotations, marks. A function meets each: `piece_at`, `split` (the parts of a text and their fault), `items_of`
+//! (macros), `entries_of` (annotations), `marked`; `scan` is these in a row. The other public calls are those of the
+//! first layer. `laws` says that a text has tokens in one way, or one refusal, and never both.
 #![tactic(auto)]
 
+mod annotations;
+mod behind;
 mod classes;
+mod directives;
+mod extents;
+mod faults;
+mod groups;
+pub mod laws;
 mod limits;
+mod line_extents;
 mod lines;
+mod macro_table;
+mod marks;
+mod names;
 mod numbers;
+mod obey;
+mod parts;
 mod piece;
 mod pieces;
 mod places;
+mod replacement;
+mod replacing;
+mod scanning;
+mod scope;
 mod spellings;
+mod split;
 mod texts;
 mod token;
 mod values;
 
-pub use limits::MAX_WORDS;
+pub use limits::{MAX_WEIGHT, MAX_WORDS};
 pub use lines::{lead_len, line_pieces, rest_of_line_len};
 pub use piece::{Kind, Piece};
 pub use pieces::piece_at;
 pub use places::{first_bad_byte, place_behind};
+pub use scanning::scan;
 pub use spellings::{keyword_of, reserved_of, sign_of};
 pub use token::{Keyword, Reserved, Sign, Text, Token, Tokens, Word};
 pub use values::literal;

@@ -199,7 +199,7 @@ fn sign_among(words: &[Sign], spelling: &[u8]) -> Option<Sign>
         .find(|word| sign_spelling(*word).as_bytes() == spelling)
 }
 
-fn sign_spelling(word: Sign) -> &'static str
+pub(crate) fn sign_spelling(word: Sign) -> &'static str
     ensures { result.now ≡ sign_spelling word }
 {
     match word {
