@@ -1,0 +1,14 @@
+pub mod Rows
+pub mod Words
+pub mod Derivation
+pub mod Depth
+pub mod Parses
+pub mod Names
+pub mod Expressions
+pub mod Keys
+pub mod Statements
+pub mod Parsers
+pub mod Tables
+pub mod Controls
+pub mod Sources
+pub mod Reading
