@@ -2,13 +2,13 @@
 //! A token is shown as the letter of what it is, the bytes of its text where it has one, and its place; a refusal as its
 //! number and place. `e` is the end of the text.
 
-use p4_lexer::{Token, Word, scan};
+use p4_lexer::{Token, Tokens, Word, scan};
 use std::alloc::{AllocError, Global};
 use std::test::Fail;
 use tg_base::{Fault, Span};
 
 /// The longest source of a table.
-const LONGEST: usize = 100;
+const LONGEST: usize = 4_000_000;
 
 /// Words, comments and directives.
 const LINES: [(&str, &str); 36] = [
@@ -112,6 +112,27 @@ const MARKS: [(&str, &str); 34] = [
     ("bit<8>=", "k@1:1 <@1:4 n1@1:5 >@1:6 s@1:7 e1:8"),
 ];
 
+/// The names of macros, each of which doubles the one before.
+const LETTERS: &[u8; 20] = b"abcdefghijklmnopqrst";
+
+/// A source with so many pieces: what stands before, the piece, how many there are, how many macros then double the one
+/// before, and what stands behind.
+type Repeated = (&'static str, &'static str, usize, usize, &'static str);
+
+/// At the limits and past them. Of the macro s come 2^18 words and 2^19 - 1 replaced names. Of k come 1,024 words that
+/// weigh 65,502 each and 2,047 replaced names that weigh 17 each: 17 below the limit.
+const LIMITS: [(Repeated, &str); 9] = [
+    (("", "a\n", 1_000_000, 0, ""), "1000000 tokens"),
+    (("", "a\n", 1_000_000, 0, "b"), "!15@1000001:1"),
+    (("#define A\n", "A ", 999_999, 0, "b"), "1 tokens"),
+    (("#define A\n", "A ", 1_000_000, 0, "b"), "!15@2:2000001"),
+    (("#define a ", "x", 1, 18, "\ns"), "262144 tokens"),
+    (("#define a ", "x", 1, 18, "\ns s"), "!15@20:3"),
+    (("#define a ", "x", 1, 19, "\nt"), "!15@21:1"),
+    (("#define a ", "x", 65_486, 10, "\nk z"), "1025 tokens"),
+    (("#define a ", "x", 65_486, 10, "\nk z z"), "!15@12:5"),
+];
+
 /// The letter of a word, and the bytes of its text.
 fn mark(word: &Word) -> (&'static str, Option<usize>) {
     match word {
@@ -141,12 +162,24 @@ fn shown(alloc: Global, token: &Token) -> Result<String, AllocError> {
     }
 }
 
-/// What a source of the tables is scanned to.
-fn scanned(alloc: Global, source: &[u8]) -> Result<String, AllocError> {
+/// The tokens of a source of the tables, or its refusal as the tables show it.
+fn read(alloc: Global, source: &[u8]) -> Result<Result<Tokens, String>, AllocError> {
     if source.len() > LONGEST {
-        return Ok(String::new(alloc));
+        return Ok(Err(String::new(alloc)));
     }
     match scan(alloc, source) {
+        Ok(tokens) => Ok(Ok(tokens)),
+        Err(Fault::Refused(refusal)) => {
+            let (code, line, column) = (refusal.code.number(), refusal.line, refusal.column);
+            Ok(Err(format!(in alloc; "!{code}@{line}:{column}")?))
+        }
+        Err(Fault::Memory(fault)) => Err(fault),
+    }
+}
+
+/// What a source is scanned to, token by token.
+fn scanned(alloc: Global, source: &[u8]) -> Result<String, AllocError> {
+    match read(alloc, source)? {
         Ok(tokens) => {
             let mut answer = String::new(alloc);
             for token in tokens.tokens.as_slice() {
@@ -156,12 +189,42 @@ fn scanned(alloc: Global, source: &[u8]) -> Result<String, AllocError> {
             answer.push_str(format!(in alloc; "e{line}:{column}")?.as_str())?;
             Ok(answer)
         }
-        Err(Fault::Refused(refusal)) => {
-            let (code, line, column) = (refusal.code.number(), refusal.line, refusal.column);
-            format!(in alloc; "!{code}@{line}:{column}")
-        }
-        Err(Fault::Memory(fault)) => Err(fault),
+        Err(refusal) => Ok(refusal),
     }
+}
+
+/// What a source is scanned to, by the count of its tokens.
+fn counted(alloc: Global, source: &[u8]) -> Result<String, AllocError> {
+    match read(alloc, source)? {
+        Ok(tokens) => {
+            let count = tokens.tokens.len();
+            format!(in alloc; "{count} tokens")
+        }
+        Err(refusal) => Ok(refusal),
+    }
+}
+
+/// The bytes of a source with repeated pieces.
+fn repeated(alloc: Global, source: Repeated) -> Result<Vec<u8>, AllocError> {
+    let (before, piece, times, doublings, after) = source;
+    let mut bytes = before.as_bytes().to_vec(alloc)?;
+    for _ in 0..times {
+        bytes.extend_from_slice(piece.as_bytes())?;
+    }
+    for letters in LETTERS.windows(2).take(doublings) {
+        doubled(&mut bytes, letters)?;
+    }
+    bytes.extend_from_slice(after.as_bytes())?;
+    Ok(bytes)
+}
+
+/// Adds the line in which the second letter names two of the first.
+fn doubled(bytes: &mut Vec<u8>, letters: &[u8]) -> Result<(), AllocError> {
+    if let [letter, next] = letters {
+        bytes.extend_from_slice(b"\n#define ")?;
+        bytes.extend_from_slice(&[*next, b' ', *letter, b' ', *letter])?;
+    }
+    Ok(())
 }
 
 #[test]
@@ -183,9 +246,7 @@ fn macros_are_replaced_and_words_are_marked(rt: HostRuntime) -> Result<(), Fail>
 }
 
 #[test]
-fn the_first_byte_that_is_no_text_is_refused_where_nothing_stands_before(
-    rt: HostRuntime,
-) -> Result<(), Fail> {
+fn what_is_no_text_or_past_a_limit_is_refused_at_its_place(rt: HostRuntime) -> Result<(), Fail> {
     let rows: [(&[u8], &str); 5] = [
         (b"\xff", "!10@1:1"),
         (b"// \xff", "!10@1:4"),
@@ -195,6 +256,11 @@ fn the_first_byte_that_is_no_text_is_refused_where_nothing_stands_before(
     ];
     for (source, answer) in rows {
         let got = scanned(rt.alloc(), source)?;
+        assert_eq!(rt; got.as_str(), answer, "{source:?}");
+    }
+    for (source, answer) in LIMITS {
+        let bytes = repeated(rt.alloc(), source)?;
+        let got = counted(rt.alloc(), bytes.as_slice())?;
         assert_eq!(rt; got.as_str(), answer, "{source:?}");
     }
     Ok(())

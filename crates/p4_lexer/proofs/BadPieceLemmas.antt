@@ -41,7 +41,7 @@ not_bad k left a b c d (inr (inl e)) = b e
 not_bad k left a b c d (inr (inr (inl e))) = c e
 not_bad k left a b c d (inr (inr (inr e))) = d e
 
-kind_bad_or_not : (k : Kind) (left : List ℕ) → BadKind k left ⊎ ¬ BadKind k left
+pub kind_bad_or_not : (k : Kind) (left : List ℕ) → BadKind k left ⊎ ¬ BadKind k left
 kind_bad_or_not Blank left = inr (not_bad Blank left (λ e. cc) (λ e. cc) (λ e. cc) (λ e. let h = e.0 in cc))
 kind_bad_or_not Comment left = inr (not_bad Comment left (λ e. cc) (λ e. cc) (λ e. cc) (λ e. let h = e.0 in cc))
 kind_bad_or_not Name left = inr (not_bad Name left (λ e. cc) (λ e. cc) (λ e. cc) (λ e. let h = e.0 in cc))

@@ -8,7 +8,7 @@ use Rattle.p4_lexer.specs.Scanning.{IsFirstOf}
 use Rattle.p4_lexer.specs.PartFaults.{IsOneOf}
 use Rattle.p4_lexer.proofs.DecidingLemmas.{Decides, decides_through}
 
-some_is_not_none : {X : Type 0} (x : X) → Some x ≡ None → ⊥
+pub some_is_not_none : {X : Type 0} (x : X) → Some x ≡ None → ⊥
 some_is_not_none x same = cc
 
 pub over_itself : (r s : Refusal) → s ≡ r → DecidesOver r s

@@ -32,7 +32,7 @@ mod PieceLenLemmas
 mod OneCutLemmas
 mod PartsLemmas
 mod RefusalLemmas
-mod TokensLemmas
+pub mod TokensLemmas
 mod ParenthesisLemmas
 mod GroupLemmas
 mod SortLemmas
@@ -75,3 +75,6 @@ mod ScanningLemmas
 mod HeavyLemmas
 mod UnmarkedLemmas
 mod ProperLemmas
+mod TotalLemmas
+mod DecidedLemmas
+mod WholeLemmas

@@ -50,7 +50,7 @@ words_at_place n place (c ∷ cuts) within_it = by_kind (words_at_place n place 
   by_kind rest true is = ((is, within_it), rest)
   by_kind rest false is = rest
 
-together : {X : Type 0} (P : X → Type 0) (xs ys : List X) → AllByRecursion P xs → AllByRecursion P ys → AllByRecursion P (xs ++ ys)
+pub together : {X : Type 0} (P : X → Type 0) (xs ys : List X) → AllByRecursion P xs → AllByRecursion P ys → AllByRecursion P (xs ++ ys)
 together P [] ys first second = second
 together P (x ∷ xs) ys first second = (first.0, together P xs ys first.1 second)
 
@@ -119,7 +119,7 @@ items_of_text text n all most items same at =
     All-from_recursion (λ i. IsAt n (word_of (item_at text i))) items
     (of_map (item_at text) (λ i. IsAt n (word_of i)) items (subst (AllByRecursion (λ i. IsAt n (word_of i))) (sym same) (within_at n most all at)))
 
-kind_of_word : (k : Kind) → IsTrue (is_word k) → k ≢ Annotation → IsWordKind k
+pub kind_of_word : (k : Kind) → IsTrue (is_word k) → k ≢ Annotation → IsWordKind k
 kind_of_word Name is other = tt
 kind_of_word Number is other = tt
 kind_of_word Text is other = tt

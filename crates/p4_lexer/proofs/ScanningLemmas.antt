@@ -1,11 +1,10 @@
 -- Which of several faults decides, and where the limits of a scan are passed.
-use Rattle.std.proofs.Common.{◌≡◌, ℕ, suc, zero, ◌+◌, ◌-◌, ◌≤◌, ◌<◌, List, [], ◌∷◌, ◌++◌, length, map, take, get_or, add-one, Option, Some, None, inr, refl, sym, ap, ◌∙◌, subst, arith}
+use Rattle.std.proofs.Common.{◌≡◌, ℕ, suc, zero, ◌+◌, ◌-◌, ◌≤◌, ◌<◌, List, [], ◌∷◌, ◌++◌, length, map, take, get_or, add-one, Option, Some, None, refl, sym, ap, ◌∙◌, subst, arith}
 use Rattle.std.specs.Prelude.{slice_get}
 use Rattle.std.proofs.Math.Seq.{take-suc}
 use Rattle.tg_base.specs.declared.place.Span.{Span}
 use Rattle.tg_base.specs.declared.place.Refusal.{Refusal}
-use Rattle.tg_base.specs.Code.{number_of}
-use Rattle.tg_base.specs.Deciding.{DecidesOver, IsDeciding}
+use Rattle.tg_base.specs.Deciding.{IsDeciding}
 use Rattle.tg_base.specs.declared.place.Code.TheVariants.{Limit}
 use Rattle.p4_lexer.specs.declared.limits.TheConstants.{MAX_WORDS, MAX_WEIGHT}
 use Rattle.p4_lexer.specs.Replacement.{Item, AreItems}
@@ -22,11 +21,9 @@ use Rattle.p4_lexer.specs.Weight.{word_of, weight, total_weight}
 use Rattle.p4_lexer.specs.Tokens.{Reading, IsFault, IsRefused, HasTokens, IsPastCount, IsPastWeight, refusal_at, entry_place, tokens_among}
 use Rattle.p4_lexer.specs.declared.extents.Entry.TheVariants.{Token as TokenAt, Name as NameAt}
 use Rattle.p4_lexer.specs.Scanning.{IsFirstOf, IsSplit, IsReplaced, IsUnmarked, tokens_in}
+use Rattle.p4_lexer.proofs.FirstFaultLemmas.{some_is_not_none, over_itself}
 
-some_is_not_none : {X : Type 0} (x : X) → Some x ≡ None → ⊥
-some_is_not_none x same = cc
-
-some_is : {X : Type 0} (x y : X) → Some x ≡ Some y → x ≡ y
+pub some_is : {X : Type 0} (x y : X) → Some x ≡ Some y → x ≡ y
 some_is x y same = cc
 
 pub first_is : {X : Type 0} (x y : X) (xs ys : List X) → x ∷ xs ≡ y ∷ ys → x ≡ y
@@ -34,9 +31,6 @@ first_is x y xs ys same = cc
 
 pub rest_is : {X : Type 0} (x y : X) (xs ys : List X) → x ∷ xs ≡ y ∷ ys → xs ≡ ys
 rest_is x y xs ys same = cc
-
-decides_over_itself : (r s : Refusal) → s ≡ r → DecidesOver r s
-decides_over_itself r s same = inr (ap (λ x. x.line) (sym same), ap (λ x. x.column) (sym same), subst (λ x. number_of r.code ≤ number_of x.code) (sym same) (omega arith))
 
 at_place : {X : Type 0} (first : List X) (x : X) (rest : List X) → slice_get (first ++ x ∷ rest) (length first) ≡ Some x
 at_place [] x rest = refl
@@ -58,7 +52,7 @@ pub one_past : (entries : List Entry) (e : Entry) → slice_get entries MAX_WORD
 one_past entries e at = record {
   found = let (first, rest, spelled, len) = split_at entries MAX_WORDS e at in
       record { first = first; next = e; rest = rest; spelled = spelled; count = len; is_limit = refl };
-  first = λ s past. decides_over_itself (refusal_at Limit (entry_place e)) s (past.is_limit ∙ ap (λ x. refusal_at Limit (entry_place x)) (same_next past));
+  first = λ s past. over_itself (refusal_at Limit (entry_place e)) s (past.is_limit ∙ ap (λ x. refusal_at Limit (entry_place x)) (same_next past));
 } where
   same_next : {s : Refusal} (past : IsPastCount entries s) → past.next ≡ e
   same_next past = some_is past.next e (sym (at_place past.first past.next past.rest) ∙ subst (λ es. slice_get es (length past.first) ≡ Some e) past.spelled (subst (λ n. slice_get entries n ≡ Some e) (sym past.count) at))
@@ -85,7 +79,7 @@ same_heavy most (k ∷ f) (l ∷ g) i j r s same fw fp gw gp =
 pub one_too_heavy : (items : List Item) (place : Span) → IsPastWeight items (refusal_at Limit place) → IsFirstOf (IsPastWeight items) (Some (refusal_at Limit place))
 one_too_heavy items place past = record {
   found = past;
-  first = λ s other. decides_over_itself (refusal_at Limit place) s
+  first = λ s other. over_itself (refusal_at Limit place) s
       (other.is_limit ∙ ap (λ i. refusal_at Limit (word_of i).place) (same_heavy MAX_WEIGHT other.first past.first other.next past.next other.rest past.rest
       (sym other.spelled ∙ past.spelled) other.before other.past past.before past.past) ∙ sym past.is_limit);
 }

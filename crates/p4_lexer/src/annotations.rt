@@ -170,7 +170,8 @@ fn text_of(text: &[u8], word: WordAt) -> Option<Extent>
 }
 
 fn is_quoted(bytes: &[u8]) -> bool
-    ensures { IsTrue result ↔ ((t : List ℕ) × (bytes.now ≡ quotation_mark ∷ t ++ quotation_mark ∷ [])) }
+    ensures { IsTrue result
+        ↔ ((t : List ℕ) × (bytes.now ≡ quotation_mark ∷ t ++ quotation_mark ∷ [])) }
 {
     matches!(bytes, [b'"', .., b'"'])
 }

@@ -94,7 +94,8 @@ impl Kept {
 
     fn declare_name(&self, alloc: Global, types: &mut Names, name: &[u8]) -> Result<(), AllocError>
         ensures { OnOk result ((other : List ℕ) → has types.new other
-            ≡ (is_name (named_type (names_next self.now.last) name.now) other || has types.old other)) }
+            ≡ (is_name (named_type (names_next self.now.last) name.now) other
+            || has types.old other)) }
     {
         if names_next(self.last) {
             types.insert(alloc, name)?;

@@ -10,7 +10,7 @@ ghost use Rattle.p4_lexer.specs.Extents.{bytes_at, IsIn, cut_at};
 ghost use Rattle.p4_lexer.specs.DirectiveExtents.{IsPieceAt, DirectiveFits, directive_at};
 ghost use Rattle.p4_lexer.specs.DirectiveSteps.{word_spelling, word_among, is_name, is_blank_kind, is_filler_kind, is_sign_kind, is_gap, are_filler, begins_with_parenthesis, is_file_alone, is_included, begins_with_name, name_index, defined_at, name_alone, directive_by, directive_of};
 
-use crate::extents::{Extent, PieceAt};
+use crate::extents::{Extent, PieceAt, bytes_of};
 use crate::piece::Kind;
 
 /// A directive, by extents of the pieces of its line.
@@ -72,14 +72,6 @@ fn word_among(words: &[DirectiveWord], spelling: &[u8]) -> Option<DirectiveWord>
         .find(|word| word_spelling(*word).as_bytes() == spelling)
 }
 
-/// The bytes of an extent.
-pub(crate) fn bytes_at(text: &[u8], extent: Extent) -> &[u8]
-    requires { IsIn text.now extent }
-    ensures { result.now ≡ bytes_at text.now extent }
-{
-    &text[extent.at..][..extent.len]
-}
-
 fn is_name(kind: Kind) -> bool
     ensures { result ≡ is_name kind }
 {
@@ -108,7 +100,7 @@ fn is_gap(text: &[u8], piece: PieceAt) -> bool
     requires { IsIn text.now piece.extent }
     ensures { result ≡ is_gap (cut_at text.now piece) }
 {
-    is_blank_kind(piece.kind) && bytes_at(text, piece.extent) != b"\n".as_slice()
+    is_blank_kind(piece.kind) && bytes_of(text, piece.extent) != b"\n".as_slice()
 }
 
 /// How many blanks of the line itself the pieces begin with.
@@ -138,7 +130,7 @@ fn begins_with_parenthesis(text: &[u8], pieces: &[PieceAt]) -> bool
     ensures { result ≡ begins_with_parenthesis (map (cut_at text.now) pieces.now) }
 {
     match pieces.first() {
-        Some(piece) => is_sign_kind(piece.kind) && bytes_at(text, piece.extent) == b"(".as_slice(),
+        Some(piece) => is_sign_kind(piece.kind) && bytes_of(text, piece.extent) == b"(".as_slice(),
         None => false,
     }
 }
@@ -153,7 +145,7 @@ fn is_file_alone(text: &[u8], file: &[u8], pieces: &[PieceAt]) -> bool
         if done >= file.len() {
             return are_filler(&pieces[i..]);
         }
-        let bytes = bytes_at(text, piece.extent);
+        let bytes = bytes_of(text, piece.extent);
         if !file[done..].starts_with(bytes) {
             return false;
         }
@@ -264,7 +256,7 @@ fn directive_found(text: &[u8], pieces: &[PieceAt]) -> Option<DirectiveAt>
     if is_name(word.kind) {
         directive_by(
             text,
-            word_among(&DIRECTIVE_WORDS, bytes_at(text, word.extent))?,
+            word_among(&DIRECTIVE_WORDS, bytes_of(text, word.extent))?,
             rest,
         )
     } else {

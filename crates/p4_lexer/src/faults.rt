@@ -12,8 +12,7 @@ ghost use Rattle.p4_lexer.specs.Tokens.{BeginsWithLetter, IsBadPiece, refusal_at
 ghost use Rattle.p4_lexer.specs.Scanning.{IsFirstOf};
 ghost use Rattle.p4_lexer.specs.PartFaults.{IsOneOf, IsBadThere, IsBadWhereTaken, IsStray, IsNoText, IsOpenAt};
 
-use crate::directives::bytes_at;
-use crate::extents::PieceAt;
+use crate::extents::{PieceAt, bytes_of};
 use crate::piece::Kind;
 use crate::places::{first_bad_byte, place_behind};
 use crate::scope::ConditionAt;
@@ -131,7 +130,7 @@ pub(crate) fn bad_piece(text: &[u8], pieces: &[PieceAt], place: Span) -> Option<
     let mut here = place;
     for piece in pieces {
         best = with_piece(best, text, *piece, here);
-        here = place_behind(here, bytes_at(text, piece.extent));
+        here = place_behind(here, bytes_of(text, piece.extent));
     }
     best
 }
@@ -194,7 +193,8 @@ pub(crate) fn line_fault(
     requires pieces { All (IsPieceAt text.now) pieces.now }
     requires row { (start : ℕ) × AreInRow start pieces.now × (start ≤ length text.now)
         × (place ≡ place_after (take start text.now)) }
-    ensures { IsFirstOf (λ f. IsBadWhereTaken text.now pieces.now taken f ⊎ IsStray belongs hash_place f)
+    ensures { IsFirstOf
+        (λ f. IsBadWhereTaken text.now pieces.now taken f ⊎ IsStray belongs hash_place f)
         result }
 {
     let bad = taken_fault(text, pieces, place, taken);

@@ -1,11 +1,18 @@
 //! Laws of the definitions, each the contract of a function that does nothing: what crates above may rest on. A proof
 //! takes the lemmas of the same content from `proofs/`.
 
-ghost use Rattle.std.specs.Prelude.{◌≡◌, ℕ, List};
+ghost use Rattle.std.specs.Prelude.{◌≡◌, ℕ, List, ◌⊎◌};
 ghost use Rattle.tg_base.specs.declared.place.Refusal.{Refusal};
 ghost use Rattle.p4_lexer.specs.declared.token.Tokens.{Tokens};
 ghost use Rattle.p4_lexer.specs.Parts.{Part, AreParts};
 ghost use Rattle.p4_lexer.specs.Tokens.{HasTokens, IsRefused};
+
+/// A text has tokens, or a refusal, whatever its bytes.
+pub fn tokens_or_refusal_are_there()
+    ensures { (text : List ℕ)
+        → ((tokens : Tokens) × HasTokens text tokens)
+        ⊎ ((fault : Refusal) × IsRefused text fault) }
+{}
 
 /// A text is read as parts in one way at most.
 pub fn parts_are_determined()

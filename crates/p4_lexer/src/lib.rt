@@ -3,7 +3,7 @@
 //! `specs/` defines the tokens of a whole source in layers: pieces and places, lines and directives, words, macros,
 //! annotations, marks. A function meets each: `piece_at`, `split` (the parts of a text and their fault), `items_of`
 //! (macros), `entries_of` (annotations), `marked`; `scan` is these in a row. The other public calls are those of the
-//! first layer. `laws` says that a text has tokens in one way, or one refusal, and never both.
+//! first layer. `laws` says that a text has tokens in one way, or one refusal, and not both; and that it has either.
 #![tactic(auto)]
 
 mod annotations;
@@ -42,6 +42,8 @@ pub use piece::{Kind, Piece};
 pub use pieces::piece_at;
 pub use places::{first_bad_byte, place_behind};
 pub use scanning::scan;
-pub use spellings::{keyword_of, reserved_of, sign_of};
+pub use spellings::{
+    keyword_of, keyword_spelling, reserved_of, reserved_spelling, sign_of, sign_spelling,
+};
 pub use token::{Keyword, Reserved, Sign, Text, Token, Tokens, Word};
 pub use values::literal;

@@ -29,7 +29,8 @@ impl Names {
 
     pub(crate) fn insert(&mut self, alloc: Global, name: &[u8]) -> Result<(), AllocError>
         ensures { OnOk result
-            ((other : List ℕ) → has self.new other ≡ (bytes_eq other name.now || has self.old other)) }
+            ((other : List ℕ)
+            → has self.new other ≡ (bytes_eq other name.now || has self.old other)) }
     {
         let owned = Vec::from_slice(alloc, name)?;
         self.names.insert(owned)?;

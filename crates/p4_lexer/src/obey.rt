@@ -7,8 +7,8 @@ ghost use Rattle.p4_lexer.specs.Extents.{bytes_at, cut_at, IsIn};
 ghost use Rattle.p4_lexer.specs.DirectiveExtents.{IsPieceAt, DirectiveFits, directive_at};
 ghost use Rattle.p4_lexer.specs.PartSteps.{Obeys};
 
-use crate::directives::{DirectiveAt, bytes_at};
-use crate::extents::{Event, Extent, PieceAt};
+use crate::directives::DirectiveAt;
+use crate::extents::{Event, Extent, PieceAt, bytes_of};
 use crate::scope::ScopeAt;
 use sqlite_items::Items;
 use std::alloc::{AllocError, Global};
@@ -33,7 +33,7 @@ fn define<'a>(
     if !scope.taken {
         return Ok(());
     }
-    scope.define(bytes_at(text, name))?;
+    scope.define(bytes_of(text, name))?;
     events.push(Event::Define(name, Items::from_slice(alloc, words)?))?;
     Ok(())
 }
@@ -53,7 +53,7 @@ fn undefine<'a>(
     if !scope.taken {
         return Ok(());
     }
-    scope.undefine(bytes_at(text, name));
+    scope.undefine(bytes_of(text, name));
     events.push(Event::Undefine(name))?;
     Ok(())
 }
@@ -85,12 +85,12 @@ pub(crate) fn obey<'a>(
             Ok(true)
         }
         DirectiveAt::IfDefined(name) => {
-            let defined = scope.is_defined(bytes_at(text, name));
+            let defined = scope.is_defined(bytes_of(text, name));
             scope.open(place, defined)?;
             Ok(true)
         }
         DirectiveAt::IfNotDefined(name) => {
-            let defined = scope.is_defined(bytes_at(text, name));
+            let defined = scope.is_defined(bytes_of(text, name));
             scope.open(place, !defined)?;
             Ok(true)
         }

@@ -74,7 +74,8 @@ fn keyword_among(words: &[Keyword], spelling: &[u8]) -> Option<Keyword>
         .find(|word| keyword_spelling(*word).as_bytes() == spelling)
 }
 
-fn keyword_spelling(word: Keyword) -> &'static str
+/// How the keyword is written.
+pub fn keyword_spelling(word: Keyword) -> &'static str
     ensures { result.now ≡ keyword_spelling word }
 {
     match word {
@@ -133,7 +134,8 @@ fn reserved_among(words: &[Reserved], spelling: &[u8]) -> Option<Reserved>
         .find(|word| reserved_spelling(*word).as_bytes() == spelling)
 }
 
-fn reserved_spelling(word: Reserved) -> &'static str
+/// How the reserved word is written.
+pub fn reserved_spelling(word: Reserved) -> &'static str
     ensures { result.now ≡ reserved_spelling word }
 {
     match word {
@@ -199,7 +201,8 @@ fn sign_among(words: &[Sign], spelling: &[u8]) -> Option<Sign>
         .find(|word| sign_spelling(*word).as_bytes() == spelling)
 }
 
-pub(crate) fn sign_spelling(word: Sign) -> &'static str
+/// How the sign is written.
+pub fn sign_spelling(word: Sign) -> &'static str
     ensures { result.now ≡ sign_spelling word }
 {
     match word {

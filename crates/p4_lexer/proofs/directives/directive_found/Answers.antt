@@ -7,7 +7,7 @@ use Rattle.p4_lexer.proofs.directives.directive_found.Goals as goal
 pub returns-in_ok-word_among-clause-value : goal.returns-in_ok-word_among-clause-value
 returns-in_ok-word_among-clause-value c =
     found_is c.args.text.now c.args.pieces.now c.in_ok-word_among.field-0 c.directive_by.result c.in-len1-up.len_at_least (sym c.is_name.ensures ∙ c.if-is_name.true)
-    (ap (word_among DIRECTIVE_WORDS) (sym c.bytes_at.ensures) ∙ sym c.in_ok-word_among.ensures) c.directive_by.ensures.value
+    (ap (word_among DIRECTIVE_WORDS) (sym c.bytes_of.ensures) ∙ sym c.in_ok-word_among.ensures) c.directive_by.ensures.value
 
 pub returns-in_ok-word_among-clause-fits : goal.returns-in_ok-word_among-clause-fits
 returns-in_ok-word_among-clause-fits c = fits_is c.args.text.now c.args.pieces.now c.directive_by.result c.in-len1-up.len_at_least c.directive_by.ensures.fits

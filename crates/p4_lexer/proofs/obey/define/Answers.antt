@@ -9,6 +9,6 @@ pub returns : goal.returns
 returns c = λ in_force place st.
     let words = map (cut_at c.args.text.now) c.args.words.now in
     defines c.args.text.now in_force place c.args.name c.args.words.now c.args.scope.now _ c.args.events.now c.push.new.self c.if-not-scope.false st
-    (subst (λ name. StandsFor c.define.new.self (defined_scope in_force name words)) c.bytes_at.ensures (c.in_ok-define.ensures in_force words st))
+    (subst (λ name. StandsFor c.define.new.self (defined_scope in_force name words)) c.bytes_of.ensures (c.in_ok-define.ensures in_force words st))
     (c.in_ok-push.ensures.ok ∙ ap (λ ps. c.args.events.now ++ DefineEvent c.args.name ps ∷ []) c.in_ok-from_slice.ensures)
     c.requires.name c.requires.words
