@@ -17,6 +17,10 @@ const BOUNDS: &str = "bounds bytes 128 steps 12 entries 1 budget 2000\n";
 
 const NOT_BUILT: &str = "refused 21 NotBuilt at 1:1\n";
 
+const NOT_TEXT: &str = "refused 10 NotText at 1:1\n";
+
+const TOO_LONG: &str = "refused 15 Limit at 1:1\n";
+
 const READ_FAULT: &str = "read fault\n";
 
 const USAGE: &str = "usage: gen NAME | replay NAME TEST FILL | load NUMBER SIZE\n";
@@ -28,7 +32,7 @@ struct Job {
     test: &'static str,
 }
 
-const JOBS: [Job; 8] = [
+const JOBS: [Job; 10] = [
     // One assignment.
     Job {
         statements: "    s.egress_spec = 3;\n",
@@ -76,18 +80,51 @@ const JOBS: [Job; 8] = [
         report: "1 11:5 covered 1\n2 12:5 covered 1\n3 13:5 covered 1\n4 14:5 covered 1\n5 15:5 covered 1\n6 16:5 covered 1\n7 17:5 covered 1\n8 18:5 covered 1\n9 19:5 covered 1\n10 20:5 covered 1\n11 21:5 covered 1\n12 22:5 covered 1\n13 23:5 covered 1\n14 24:5 covered 1\n15 25:5 covered 1\n16 26:5 covered 1\nstatements 16 covered 16 unreachable 0 unsteady 0 undecided 0 tests 1 nibbles 0\n",
         test: "# test 1 covers 1 2 3 4 5 6 7 8 9 10 11 12 13 14 15 16\npacket 0 0000000000000000000000000000\n",
     },
+    // Blanks, comments, two statements in a line, macros, a part that is not taken, an annotation that is dropped.
+    Job {
+        statements: "\t/* 1 */ s . egress_spec=3;mark_to_drop ( s\r\n);\n",
+        report: "1 11:10 covered 1\n2 11:28 covered 1\nstatements 2 covered 2 unreachable 0 unsteady 0 undecided 0 tests 1 nibbles 0\n",
+        test: "# test 1 covers 1 2\npacket 0 0000000000000000000000000000\n",
+    },
+    Job {
+        statements: "#define DROP mark_to_drop(s)\n#ifdef ABSENT\n    s.nothing = 1;\n#else\n    DROP; // \u{e9}\n#endif\n#define PORT 3\n    @hidden s.egress_spec = PORT;\n",
+        report: "1 15:5 covered 1\n2 18:13 covered 1\nstatements 2 covered 2 unreachable 0 unsteady 0 undecided 0 tests 1 nibbles 0\n",
+        test: "# test 1 covers 1 2\npacket 0 0000000000000000000000000000\nexpect 3 0000000000000000000000000000$\n",
+    },
 ];
 
-/// Statements with which the skeleton is not built.
-const REFUSED: [&str; 8] = [
-    "    s.egress_spec = 512;\n",
-    "    s.egress_spec = 03;\n",
-    "    s.egress_spec = ;\n",
-    "    s.egress_spec = 1000;\n",
-    "   s.egress_spec = 3;\n",
-    "    s.egress_spec = 3;\n\n",
-    "    s.egress_spec = 3; \n",
-    "    mark_to_drop(s);\n    mark_to_drop(s);\n    mark_to_drop(s);\n    mark_to_drop(s);\n    mark_to_drop(s);\n    mark_to_drop(s);\n    mark_to_drop(s);\n    mark_to_drop(s);\n    mark_to_drop(s);\n    mark_to_drop(s);\n    mark_to_drop(s);\n    mark_to_drop(s);\n    mark_to_drop(s);\n    mark_to_drop(s);\n    mark_to_drop(s);\n    mark_to_drop(s);\n    mark_to_drop(s);\n",
+/// Statements with which the skeleton is refused, and the note.
+const REFUSED: [(&str, &str); 15] = [
+    // Tokens of no program that is built.
+    ("    s.egress_spec = 512;\n", NOT_BUILT),
+    ("    s.egress_spec = 03;\n", NOT_BUILT),
+    ("    s.egress_spec = 0x3;\n", NOT_BUILT),
+    ("    s.egress_spec = 9w3;\n", NOT_BUILT),
+    ("    s.egress_spec = ;\n", NOT_BUILT),
+    ("    s.egress_spec = 1000;\n", NOT_BUILT),
+    ("    @name(\"x\") mark_to_drop(s);\n", NOT_BUILT),
+    ("    \"mark_to_drop(s);\"\n", NOT_BUILT),
+    (
+        "    mark_to_drop(s);\n    mark_to_drop(s);\n    mark_to_drop(s);\n    mark_to_drop(s);\n    mark_to_drop(s);\n    mark_to_drop(s);\n    mark_to_drop(s);\n    mark_to_drop(s);\n    mark_to_drop(s);\n    mark_to_drop(s);\n    mark_to_drop(s);\n    mark_to_drop(s);\n    mark_to_drop(s);\n    mark_to_drop(s);\n    mark_to_drop(s);\n    mark_to_drop(s);\n    mark_to_drop(s);\n",
+        NOT_BUILT,
+    ),
+    // No tokens: a byte that is no text, one that begins no word, a comment that is not ended, a number that a letter
+    // follows, a directive of another kind, and a condition that is not ended.
+    ("    s.egress_spec = 3 $;\n", "refused 11 Lex at 11:23\n"),
+    (
+        "    s.egress_spec = 3;\n    /* mark_to_drop(s);\n",
+        "refused 11 Lex at 12:5\n",
+    ),
+    ("    s.egress_spec = 3a;\n", "refused 11 Lex at 11:21\n"),
+    (
+        "    s.egress_spec = 3;\n  }\n#if 1\n",
+        "refused 12 Directive at 13:1\n",
+    ),
+    (
+        "    s.egress_spec = 3;\n#ifdef A\n",
+        "refused 12 Directive at 12:1\n",
+    ),
+    ("    // \u{e9}\n    \u{e9}\n", "refused 11 Lex at 12:5\n"),
 ];
 
 /// The bytes of the file `a.p4`.
@@ -99,7 +136,7 @@ enum Source {
 }
 
 /// A call that writes nothing but notes: the command line, the file, the read that fails, the status and the notes.
-const NOTED: [(&str, Source, u64, u8, &str); 17] = [
+const NOTED: [(&str, Source, u64, u8, &str); 18] = [
     // Words that ask for nothing. No file is opened.
     ("", Source::Skeleton(""), 1, 1, USAGE),
     ("gen", Source::Skeleton(""), 1, 1, USAGE),
@@ -117,12 +154,13 @@ const NOTED: [(&str, Source, u64, u8, &str); 17] = [
     ("load 7 200", Source::Skeleton(""), 1, 1, USAGE),
     // Other sources.
     ("gen a.p4", Source::Blanks(0), 0, 2, NOT_BUILT),
-    ("gen a.p4", Source::NotText, 0, 2, NOT_BUILT),
+    ("gen a.p4", Source::NotText, 0, 2, NOT_TEXT),
     ("gen a.p4", Source::Blanks(262_144), 0, 2, NOT_BUILT),
-    ("gen a.p4", Source::Blanks(300_000), 0, 2, NOT_BUILT),
+    ("gen a.p4", Source::Blanks(262_145), 0, 2, TOO_LONG),
+    ("gen a.p4", Source::Blanks(300_000), 0, 2, TOO_LONG),
     // Of a long file 262,145 bytes are taken, by an open and a read that fills the buffer: the read past it is not made.
     ("gen a.p4", Source::Blanks(300_000), 2, 4, READ_FAULT),
-    ("gen a.p4", Source::Blanks(300_000), 3, 2, NOT_BUILT),
+    ("gen a.p4", Source::Blanks(300_000), 3, 2, TOO_LONG),
     // A missing file, and a fault at the open and at each read.
     ("gen b.p4", Source::Skeleton(""), 0, 4, READ_FAULT),
     ("gen a.p4", Source::Skeleton(""), 1, 4, READ_FAULT),
@@ -190,10 +228,10 @@ fn jobs_are_done_and_others_noted(rt: HostRuntime) -> Result<(), Fail> {
         let report = format!(in alloc; "{BOUNDS}{}", job.report)?;
         assert_holds(&rt, &desk, [report.as_str(), job.test, ""], job.statements);
     }
-    for statements in REFUSED {
+    for (statements, note) in REFUSED {
         let (status, desk) = run(alloc, "gen a.p4", Source::Skeleton(statements), (0, 0))?;
         assert_eq!(rt; status, 2, "{statements}");
-        assert_holds(&rt, &desk, ["", "", NOT_BUILT], statements);
+        assert_holds(&rt, &desk, ["", "", note], statements);
     }
     for (line, source, failing, want, notes) in NOTED {
         let (status, desk) = run(alloc, line, source, (failing, 0))?;

@@ -2,3 +2,4 @@ pub mod Blocks
 pub mod Bounds
 pub mod Input
 pub mod Numbered
+pub mod Placed

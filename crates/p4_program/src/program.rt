@@ -1,7 +1,8 @@
 //! Programs: numbered statements with their places in the source.
-ghost use Rattle.std.specs.Prelude.{◌≡◌, ◌≤◌, length, map};
+ghost use Rattle.std.specs.Prelude.{◌≡◌, ◌≤◌, All, length, map};
 ghost use Rattle.p4_program.specs.declared.program.TheConstants.{MAX_STATEMENTS};
 ghost use Rattle.p4_program.specs.Numbered.{number_of, numbers_from};
+ghost use Rattle.p4_program.specs.Placed.{IsPlaced};
 
 use crate::v1model::EgressSpec;
 use sqlite_items::Items;
@@ -33,4 +34,5 @@ pub struct Program {
     pub statements: Items<Statement>,
     ghost within: { length statements ≤ MAX_STATEMENTS },
     ghost numbered: { map number_of statements ≡ numbers_from 1 (length statements) },
+    ghost placed: { All IsPlaced statements },
 }

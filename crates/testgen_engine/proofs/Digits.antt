@@ -14,7 +14,7 @@ use Rattle.std.specs.Int.{IsInRange}
 use Rattle.std.specs.List.{prefix_len}
 use Rattle.std.specs.Str.{all_ascii_digits}
 use Rattle.std.specs.Str.Parse.{AllDigits, digits_value}
-use Rattle.testgen_engine.specs.Lines.{StartsNoDigit, IsPlain, IsNumberAt, IsNoNumber}
+use Rattle.testgen_engine.specs.Statements.{StartsNoDigit, IsPlain, IsNumberAt, IsNoNumber}
 
 -- std's digits and their value, as the model of numerals that its lemmas ask for
 pub own : IsNumeralModel (AllDigits 10) (digits_value 10)

@@ -1,6 +1,5 @@
 -- Lemmas on how a call may end.
-use Rattle.std.proofs.Common.{◌≡◌, ◌≢◌, ◌⊎◌, ℕ, ◌<◌, Bool, true, false, IsTrue, List, [], ◌∷◌, ◌++◌, Option, None, Some, IfSome, IsSomeAnd, All, Result, Ok, Err, IsErr, IfOk, length, inl, inr, refl, ap, sym, ◌∙◌, subst, arith, append-nil, take, lit<}
-use Rattle.std.proofs.Math.Seq.{take-append_seam}
+use Rattle.std.proofs.Common.{◌≡◌, ◌≢◌, ◌⊎◌, ℕ, Bool, true, false, IsTrue, List, [], ◌∷◌, ◌++◌, Option, None, Some, IfSome, IsSomeAnd, All, Result, Ok, Err, IsErr, IfOk, inl, inr, refl, ap, sym, ◌∙◌, subst, arith, append-nil}
 use Rattle.std.proofs.lemmas.Result.{MatchResult-from_err}
 use Rattle.std.proofs.lemmas.List.Elements.{recursion_from_All}
 use Rattle.std.specs.List.{AllByRecursion}
@@ -16,7 +15,6 @@ use Rattle.p4_program.specs.declared.bounds.Bounds.{Bounds}
 use Rattle.p4_program.specs.declared.program.Program.{Program}
 use Rattle.testgen_engine.specs.Decide.{findings}
 use Rattle.testgen_engine.specs.declared.decide.Decided.{Decided}
-use Rattle.testgen_engine.specs.declared.source.TheConstants.{MOST_BYTES}
 use Rattle.testgen_engine.specs.declared.status.TheConstants.{DONE, WRONG_WORDS, REFUSED, UNDECIDED, READ_FAULT}
 use Rattle.testgen_engine.specs.declared.status.Status.{Status}
 use Rattle.testgen_engine.specs.declared.status.Status.TheVariants.{Done, WrongWords, Refused, ReadFault}
@@ -35,15 +33,6 @@ use Rattle.testgen_engine.proofs.OutputLemmas.{adds_nothing}
 use Rattle.testgen_engine.proofs.SkeletonLemmas.{built_short, refused_or_built, refused_whole}
 use Rattle.testgen_engine.proofs.SourceLemmas.{read_stays}
 
--- the source of a program is shorter than what is taken of one
-stands_short : (bytes : List ℕ) (p : Program) → StandsFor bytes p → length bytes < MOST_BYTES
-stands_short bytes p stands = omega (arith, built_short bytes p stands)
-
--- so one that was not read to its end is refused however it goes on
-refused_longer : (bytes rest : List ℕ) (refusal : Refusal) → length bytes ≡ MOST_BYTES → IsRefused bytes refusal → IsRefused (bytes ++ rest) refusal
-refused_longer bytes rest refusal long refused =
-    refused_whole MOST_BYTES bytes (bytes ++ rest) refusal (lit< tt) (sym (ap (λ n. take n (bytes ++ rest)) (sym long) ∙ take-append_seam bytes rest)) refused
-
 -- a text that was added behind reads that left the outputs as they were
 adds_from : (first second third : Moment) (text : Out → List ℕ) → KeepsWriting first second → Adds second third text → Adds first third text
 adds_from first second third text stays h = record { each = λ o. h.each o ∙ ap (λ taken. output_after taken (text o)) (stays.outputs o) }
@@ -57,7 +46,7 @@ read_program first second third words name bytes b p asks source stays stands = 
   bytes = bytes;
   read = elim source.whole [
     | inl met ↦ subst (HasRead first third name bytes) met (read_stays first second third name bytes source.ended source.read stays)
-    | inr long ↦ absurd (omega (arith, stands_short bytes p stands, long))
+    | inr long ↦ absurd (omega (arith, built_short bytes p stands, long))
   ];
   program = stands;
 }
@@ -74,7 +63,7 @@ read_refused first second third words name bytes b refusal asks source stays ref
   read = read_stays first second third name bytes source.ended source.read stays;
   refused = λ rest none. elim source.whole [
     | inl met ↦ subst (λ xs. IsRefused xs refusal) (sym (ap (λ xs. bytes ++ xs) (none met) ∙ append-nil bytes)) refused
-    | inr long ↦ refused_longer bytes rest refusal long refused
+    | inr long ↦ refused_whole bytes rest refusal long refused
   ];
 }
 

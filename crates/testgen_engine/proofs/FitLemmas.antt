@@ -1,15 +1,16 @@
--- Right findings of the program of a source fit: their places, their tests and the numbers of these.
-use Rattle.std.proofs.Common.{◌≡◌, ℕ, ◌+◌, ◌*◌, ◌^◌, ◌<◌, ◌≤◌, true, false, List, [], ◌∷◌, Option, None, Some, IsSome, length, map, get_or, refl, ap, sym, subst, arith, lit<, if◌then◌else◌}
+-- Right findings fit: their places, their tests and the numbers of these.
+use Rattle.std.proofs.Common.{◌≡◌, ℕ, ◌+◌, ◌*◌, ◌<◌, ◌≤◌, true, false, List, [], ◌∷◌, Option, None, Some, IsSome, length, map, get_or, refl, ap, subst, arith, if◌then◌else◌}
 use Prim.Native.Nat.{zero, suc}
-use Rattle.std.proofs.lemmas.List.Elements.{All-from_recursion}
+use Rattle.std.proofs.lemmas.List.Elements.{All-from_recursion, recursion_from_All}
 use Rattle.std.proofs.lemmas.List.{length-map}
 use Rattle.std.proofs.lemmas.Option.{slice_get_within, slice_get-get_or}
 use Rattle.std.specs.List.{All, AllByRecursion, slice_get}
 use Rattle.p4_program.specs.declared.bounds.Bounds.{Bounds}
 use Rattle.p4_program.specs.declared.input.Input.{Input}
-use Rattle.p4_program.specs.Blocks.{place_of, places_of}
+use Rattle.p4_program.specs.Blocks.{place_of}
+use Rattle.p4_program.specs.Placed.{PlaceFits, IsPlaced}
 use Rattle.p4_program.specs.declared.program.Program.{Program}
-use Rattle.p4_program.specs.declared.program.StatementKind.{StatementKind}
+use Rattle.p4_program.specs.declared.program.Statement.{Statement}
 use Rattle.p4_meaning.specs.declared.outcome.Outcome.{Outcome}
 use Rattle.p4_meaning.specs.declared.test.Expected.{Expected}
 use Rattle.p4_meaning.specs.declared.test.Expected.TheVariants.{Drop, Packet}
@@ -25,9 +26,7 @@ use Rattle.p4_meaning.specs.Verdicts.{is_covered_by, credits_from, RightVerdict}
 use Rattle.p4_meaning.proofs.RunLemmas.{some_run}
 use Rattle.testgen_engine.specs.Findings.{Findings, AreRight}
 use Rattle.testgen_engine.specs.Report.{nibbles_of}
-use Rattle.testgen_engine.specs.declared.skeleton.TheConstants.{FIRST_LINE}
-use Rattle.testgen_engine.specs.Skeleton.{placed_from, StandsFor}
-use Rattle.testgen_engine.specs.Telling.{PlaceFits, VerdictFits, TestFits, FindingsFit}
+use Rattle.testgen_engine.specs.Telling.{VerdictFits, TestFits, FindingsFit}
 use Rattle.testgen_engine.proofs.DigitLemmas.{length-digits_of}
 use Rattle.testgen_engine.proofs.RunLemmas.{sent_is}
 
@@ -80,16 +79,13 @@ right_verdict_fits p b ts statement Unreachable few right = tt
 right_verdict_fits p b ts statement Unsteady few right = tt
 right_verdict_fits p b ts statement Undecided few right = tt
 
--- the places of a source's statements, from a line on
-places_fit : (number line : ℕ) (kinds : List StatementKind) → line + length kinds < 2 ^ 32 → AllByRecursion PlaceFits (map place_of (placed_from number line kinds))
-places_fit number line [] few = tt
-places_fit number line (kind ∷ kinds) few = (record { line = omega arith; column = lit< tt }, places_fit (suc number) (suc line) kinds (omega arith))
+place_by_place : (ss : List Statement) → AllByRecursion IsPlaced ss → AllByRecursion PlaceFits (map place_of ss)
+place_by_place [] placed = tt
+place_by_place (s ∷ ss) placed = (placed.0, place_by_place ss placed.1)
 
-source_places_fit : (bytes : List ℕ) (p : Program) → StandsFor bytes p → All PlaceFits (places_of p)
-source_places_fit bytes p source =
-    let few = source.few in
-    subst (λ ss. All PlaceFits (map place_of ss)) (sym source.statements)
-    (All-from_recursion PlaceFits (map place_of (placed_from 1 FIRST_LINE source.kinds)) (places_fit 1 FIRST_LINE source.kinds (omega arith)))
+-- the places of a program's statements fit
+statement_places_fit : (ss : List Statement) → All IsPlaced ss → All PlaceFits (map place_of ss)
+statement_places_fit ss placed = All-from_recursion PlaceFits (map place_of ss) (place_by_place ss (recursion_from_All IsPlaced ss placed))
 
 -- there are as many nibbles as digits that they allow
 length-AllowsAll : (nibbles : List Nibble) (digits : List ℕ) → AllowsAll nibbles digits → length nibbles ≡ length digits
@@ -117,8 +113,8 @@ test_fits p b t holds =
     let few = nibbles_few p b t.input t.expected run.0 run.1 run.2 (holds.each run.0 run.1 run.2) in
     record { port = omega arith; packet = bounded.bytes; nibbles = omega arith }
 
-pub right_findings_fit : (f : Findings) (bytes : List ℕ) → AreRight f → StandsFor bytes f.program → FindingsFit f
-right_findings_fit f bytes right source =
+pub right_findings_fit : (f : Findings) → AreRight f → FindingsFit f
+right_findings_fit f right =
     let found = right.so_far in
     let within = f.program.within in
     let places = length-map f.program.statements place_of in
@@ -126,7 +122,7 @@ right_findings_fit f bytes right source =
     let few = few_tests f.program f.bounds f.verdicts f.tests found.chosen in
     record {
       one_each = one_each;
-      places = source_places_fit bytes f.program source;
+      places = statement_places_fit f.program.statements f.program.placed;
       verdicts = λ k d h.
           right_verdict_fits f.program f.bounds f.tests (suc k) (get_or f.verdicts k d) (omega arith) (found.verdicts.right (suc k) (get_or f.verdicts k d) (slice_get-get_or f.verdicts k d h));
       tests = λ k d h.

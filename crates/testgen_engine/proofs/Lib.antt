@@ -4,14 +4,15 @@ pub mod Digits
 pub mod EndLemmas
 pub mod FindingsLemmas
 pub mod FitLemmas
-pub mod LineLemmas
 pub mod Lists
 pub mod OutputLemmas
+pub mod PlacedLemmas
 pub mod PrintLemmas
 pub mod ReportLemmas
 pub mod RunLemmas
 pub mod SkeletonLemmas
 pub mod SourceLemmas
+pub mod StatementLemmas
 pub mod TellingLemmas
 pub mod TestTextLemmas
 pub mod UndecidedLemmas

@@ -13,9 +13,10 @@ use Rattle.p4_meaning.specs.VerdictText.{verdict_text}
 use Rattle.p4_meaning.specs.declared.test.Test.{Test}
 use Rattle.p4_meaning.specs.declared.verdict.Verdict.{Verdict}
 use Rattle.p4_meaning.specs.declared.verdict.Verdict.TheVariants.{Covered, Unreachable, Unsteady, Undecided}
-use Rattle.testgen_engine.specs.Lines.{StartsNoDigit}
+use Rattle.testgen_engine.specs.Statements.{StartsNoDigit}
 use Rattle.testgen_engine.specs.Report.{bounds_line, statement_line, statement_lines, verdict_counts, test_counts, counts_line, counts_of}
-use Rattle.testgen_engine.specs.Telling.{PlaceFits, VerdictFits}
+use Rattle.p4_program.specs.Placed.{PlaceFits}
+use Rattle.testgen_engine.specs.Telling.{VerdictFits}
 use Rattle.testgen_engine.proofs.Digits.{same_decimal_behind, decimal_apart}
 use Rattle.testgen_engine.proofs.Lists.{append_left_injective, concat-then, same_pieces, differ_at}
 

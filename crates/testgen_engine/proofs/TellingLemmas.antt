@@ -4,6 +4,7 @@ use Prim.Native.Nat.{suc}
 use Rattle.std.proofs.lemmas.List.Elements.{recursion_from_All}
 use Rattle.std.specs.List.{AllByRecursion, flat_map, slice_get}
 use Rattle.std.proofs.lemmas.List.{length-map}
+use Rattle.p4_program.specs.Placed.{PlaceFits}
 use Rattle.p4_program.specs.Blocks.{place_of, places_of}
 use Rattle.p4_program.specs.declared.program.Program.{Program}
 use Rattle.p4_meaning.specs.Verdicts.{credits}
@@ -14,8 +15,7 @@ use Rattle.tg_base.specs.declared.desk.Out.TheVariants as out
 use Rattle.testgen_engine.specs.Findings.{Findings, AreRight, text_of}
 use Rattle.testgen_engine.specs.Log.{LogRecord}
 use Rattle.testgen_engine.specs.Report.{statement_lines, undecided_lines, counts_line, counts_of}
-use Rattle.testgen_engine.specs.Skeleton.{StandsFor}
-use Rattle.testgen_engine.specs.Telling.{PlaceFits, VerdictFits, TestFits, FindingsFit, undecided_places, SameReport, SameFindings}
+use Rattle.testgen_engine.specs.Telling.{VerdictFits, TestFits, FindingsFit, undecided_places, SameReport, SameFindings}
 use Rattle.testgen_engine.specs.TestText.{text_of_test}
 use Rattle.testgen_engine.proofs.FitLemmas.{right_findings_fit}
 use Rattle.testgen_engine.proofs.ReportLemmas.{same_bounds_line, same_statement_lines, same_counts_line}
@@ -90,8 +90,6 @@ same_findings f g p q e =
     subst (λ vs. text_of_test f.program f.verdicts (1 + k) (slice_get f.tests k) ≡ text_of_test g.program vs (1 + k) (slice_get g.tests k)) (sym report.verdicts) (rw number (e (out.Test (suc k))))) in
     record { bounds = report.bounds; places = report.places; verdicts = report.verdicts; tests = tests; log = same_log f.log g.log }
 
--- right findings of the programs of sources fit
-pub same_right_findings : (f g : Findings) (bytes others : List ℕ) → AreRight f → AreRight g → StandsFor bytes f.program → StandsFor others g.program
-    → ((out : Out) → text_of f out ≡ text_of g out) → SameFindings f g
-same_right_findings f g bytes others right also source other_source =
-    same_findings f g (right_findings_fit f bytes right source) (right_findings_fit g others also other_source)
+-- right findings fit
+pub same_right_findings : (f g : Findings) → AreRight f → AreRight g → ((out : Out) → text_of f out ≡ text_of g out) → SameFindings f g
+same_right_findings f g right also = same_findings f g (right_findings_fit f right) (right_findings_fit g also)

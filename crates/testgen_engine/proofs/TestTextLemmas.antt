@@ -20,7 +20,7 @@ use Rattle.p4_meaning.specs.declared.test.Expected.TheVariants.{Drop, Packet}
 use Rattle.p4_meaning.specs.declared.test.Nibble.{Nibble}
 use Rattle.p4_meaning.specs.declared.test.Nibble.TheVariants.{Fixed, Masked, Undecided}
 use Rattle.p4_meaning.specs.declared.test.Test.{Test}
-use Rattle.testgen_engine.specs.Lines.{StartsNoDigit}
+use Rattle.testgen_engine.specs.Statements.{StartsNoDigit}
 use Rattle.testgen_engine.specs.Report.{nibbles_of}
 use Rattle.testgen_engine.specs.Telling.{TestFits, shown_nibble, shown_expected, SameTest, undecided_from, undecided_places}
 use Rattle.testgen_engine.specs.TestText.{title_line, packet_line, glyph_of, expect_line, test_text}

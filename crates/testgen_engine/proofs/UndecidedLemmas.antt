@@ -9,7 +9,7 @@ use Rattle.std.specs.List.{AllByRecursion, concat, flat_map}
 use Rattle.p4_meaning.specs.declared.test.Nibble.{Nibble}
 use Rattle.p4_meaning.specs.declared.test.Nibble.TheVariants.{Fixed, Masked, Undecided}
 use Rattle.p4_meaning.specs.declared.test.Test.{Test}
-use Rattle.testgen_engine.specs.Lines.{StartsNoDigit}
+use Rattle.testgen_engine.specs.Statements.{StartsNoDigit}
 use Rattle.testgen_engine.specs.Report.{nibble_line, nibble_lines, nibbles_of, undecided_lines}
 use Rattle.testgen_engine.specs.Telling.{TestFits, undecided_from, undecided_places}
 use Rattle.testgen_engine.proofs.Digits.{same_decimal_behind}

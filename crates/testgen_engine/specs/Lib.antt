@@ -3,7 +3,6 @@ pub mod Decide
 pub mod Ended
 pub mod Endings
 pub mod Findings
-pub mod Lines
 pub mod Log
 pub mod Notes
 pub mod Outputs
@@ -11,7 +10,9 @@ pub mod Printing
 pub mod Report
 pub mod Skeleton
 pub mod Source
+pub mod Statements
 pub mod Status
 pub mod Telling
 pub mod TestText
 pub mod Words
+pub mod Written

@@ -2,6 +2,7 @@
 use Rattle.std.specs.Prelude.{◌≡◌, ℕ, ◌^◌, ◌<◌, List, [], ◌∷◌, length, map, All, if◌then◌else◌}
 use Prim.Native.Nat.{suc}
 use Rattle.p4_program.specs.Blocks.{places_of}
+use Rattle.p4_program.specs.Placed.{PlaceFits}
 use Rattle.p4_meaning.specs.declared.test.Expected.{Expected}
 use Rattle.p4_meaning.specs.declared.test.Expected.TheVariants.{Drop, Packet}
 use Rattle.p4_meaning.specs.declared.test.Nibble.{Nibble}
@@ -9,14 +10,8 @@ use Rattle.p4_meaning.specs.declared.test.Nibble.TheVariants as nibble
 use Rattle.p4_meaning.specs.declared.test.Test.{Test}
 use Rattle.p4_meaning.specs.declared.verdict.Verdict.{Verdict}
 use Rattle.p4_meaning.specs.declared.verdict.Verdict.TheVariants.{Covered, Unreachable, Unsteady, Undecided}
-use Rattle.tg_base.specs.declared.place.Span.{Span}
 use Rattle.testgen_engine.specs.Findings.{Findings}
 use Rattle.testgen_engine.specs.Report.{is_undecided_nibble, nibbles_of}
-
--- the line and the column have 32 bits
-pub record PlaceFits (place : Span) : Type 0 where
-  pub line : place.line < 2 ^ 32
-  pub column : place.column < 2 ^ 32
 
 -- the number of a test has 32 bits
 abbrev pub VerdictFits : Verdict → Type 0

@@ -10,10 +10,10 @@ ghost use Rattle.testgen_engine.specs.Outputs.{Writes, only};
 ghost use Rattle.testgen_engine.specs.Source.{ReadsOnly};
 ghost use Rattle.testgen_engine.specs.Words.{AsksGen, AsksNothing};
 
+use crate::built::program_of;
 use crate::decide::decide;
 use crate::output::write_all;
 use crate::print::print;
-use crate::skeleton::program_of;
 use crate::source::read_source;
 use crate::status::Status;
 use crate::words::{Job, job_of};

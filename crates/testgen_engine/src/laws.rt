@@ -51,16 +51,14 @@ pub fn outputs_fix_findings()
         → ((out : Out) → text_of f out ≡ text_of g out) → SameFindings f g }
 {}
 
-/// Right findings of the program of a source fit, so the laws above suppose nothing more of them.
+/// Right findings fit, so the laws above suppose nothing more of them.
 pub fn right_findings_fit()
-    ensures { (f : Findings) (bytes : List ℕ) → AreRight f → StandsFor bytes f.program
-        → FindingsFit f }
+    ensures { (f : Findings) → AreRight f → FindingsFit f }
 {}
 
 /// So two calls that finish and print the same have found the same: the headline says that what was
-/// found is right and its program is that of a source, and this law supposes nothing more.
+/// found is right, and this law supposes nothing more.
 pub fn right_outputs_fix_findings()
-    ensures { (f g : Findings) (bytes others : List ℕ) → AreRight f → AreRight g
-        → StandsFor bytes f.program → StandsFor others g.program
+    ensures { (f g : Findings) → AreRight f → AreRight g
         → ((out : Out) → text_of f out ≡ text_of g out) → SameFindings f g }
 {}

@@ -7,7 +7,7 @@
 //! - `status`: how a call ends, and the statuses of the process;
 //! - `words`: which job the words ask for;
 //! - `source`: the bytes of the source;
-//! - `skeleton`: the program of a source that is built;
+//! - `built`, `skeleton`, `written`: the program of a source that is built;
 //! - `decide`: tests and verdicts;
 //! - `report`, `test_text`: their texts;
 //! - `output`, `print`: writing to a desk;
@@ -15,6 +15,7 @@
 //! - `laws`: that the texts tell what was found.
 #![tactic(auto)]
 
+mod built;
 mod decide;
 mod generate;
 pub mod laws;
@@ -26,6 +27,7 @@ mod source;
 mod status;
 mod test_text;
 mod words;
+mod written;
 
 ghost use Rattle.std.specs.Prelude.{◌≡◌, ◌≢◌, ◌≤◌, ◌⊎◌, ℕ, List, map, string_bytes};
 ghost use Rattle.tg_base.specs.Faults.{Rose};

@@ -1,63 +1,56 @@
-//! The program of a source that is built: the skeleton with statements of two forms.
+//! The skeleton with statements of two forms, as a text of words with a blank behind each.
 ghost use Rattle.std.specs.Prelude.{◌≡◌, ◌≢◌, ◌+◌, ◌*◌, ◌≤◌, ◌<◌, ℕ, List, ◌++◌, length, take_while, IfOk, IfSome, IsTrue, ◌↔◌, MatchOption, MatchResult};
 ghost use Rattle.std.specs.Char.{is_ascii_digit};
 ghost use Rattle.std.specs.List.{take_while, prefix_len};
 ghost use Rattle.std.specs.Str.Parse.{digits_value, AllDigits};
-ghost use Rattle.testgen_engine.specs.Skeleton.{head_text, tail_text, assign_text, drop_text, end_text, placed_from, StandsFor, IsNotBuilt, IsRefused};
-ghost use Rattle.testgen_engine.specs.Lines.{IsPlain, IsNumberAt, IsNoNumber, IsLineAt, IsNoLine, IsBody, IsNoBody, IsSourceOf};
+ghost use Rattle.testgen_engine.specs.Skeleton.{head_text, tail_text, assign_text, drop_text, end_text};
+ghost use Rattle.testgen_engine.specs.Statements.{IsPlain, IsNumberAt, IsNoNumber, IsStatementAt, IsNoStatement, IsBody, IsNoBody, IsSkeletonOf, IsNoSkeleton};
 
-use p4_program::{EgressSpec, PORT_END, Program, Statement, StatementKind};
+use p4_program::{EgressSpec, PORT_END, StatementKind};
 use sqlite_items::Items;
 use std::alloc::{AllocError, Global};
-use tg_base::{Code, Refusal, Span};
 
 /// The most statements of a source that is built.
 const MOST_STATEMENTS: usize = 16;
 
-/// The line of the first statement.
-const FIRST_LINE: u32 = 11;
-
-/// The column where each statement begins, behind four blanks.
-const COLUMN: u32 = 5;
-
-/// The lines before the statements.
+/// The words before the statements, each with a blank behind it.
 #[tactic(auto, unfolding(crate::specs::Skeleton::head_text))]
-fn head() -> &'static [u8]
+pub fn head() -> &'static [u8]
     ensures { result.now ≡ head_text }
 {
-    b"#include <core.p4>\n#include <v1model.p4>\nstruct H { }\nstruct M { }\nparser P(packet_in b, out H h, inout M m, inout standard_metadata_t s) {\n  state start { transition accept; }\n}\ncontrol V(inout H h, inout M m) { apply { } }\ncontrol I(inout H h, inout M m, inout standard_metadata_t s) {\n  apply {\n"
+    b"struct H { } struct M { } parser P ( packet_in b , out H h , inout M m , inout standard_metadata_t s ) { state start { transition accept ; } } control V ( inout H h , inout M m ) { apply { } } control I ( inout H h , inout M m , inout standard_metadata_t s ) { apply { "
 }
 
-/// The lines after the statements.
+/// The words after the statements.
 #[tactic(auto, unfolding(crate::specs::Skeleton::tail_text))]
 fn tail() -> &'static [u8]
     ensures { result.now ≡ tail_text }
 {
-    b"  }\n}\ncontrol E(inout H h, inout M m, inout standard_metadata_t s) { apply { } }\ncontrol C(inout H h, inout M m) { apply { } }\ncontrol D(packet_out b, in H h) { apply { } }\nV1Switch(P(), V(), I(), E(), C(), D()) main;\n"
+    b"} } control E ( inout H h , inout M m , inout standard_metadata_t s ) { apply { } } control C ( inout H h , inout M m ) { apply { } } control D ( packet_out b , in H h ) { apply { } } V1Switch ( P ( ) , V ( ) , I ( ) , E ( ) , C ( ) , D ( ) ) main ; "
 }
 
-/// The line of a drop.
+/// The words of a drop.
 #[tactic(auto, unfolding(crate::specs::Skeleton::drop_text))]
-fn drop_line() -> &'static [u8]
+pub fn drop_call() -> &'static [u8]
     ensures { result.now ≡ drop_text }
 {
-    b"    mark_to_drop(s);\n"
+    b"mark_to_drop ( s ) ; "
 }
 
 /// An assignment up to its number.
 #[tactic(auto, unfolding(crate::specs::Skeleton::assign_text))]
-fn assignment() -> &'static [u8]
+pub fn assignment() -> &'static [u8]
     ensures { result.now ≡ assign_text }
 {
-    b"    s.egress_spec = "
+    b"s . egress_spec = "
 }
 
 /// An assignment after its number.
 #[tactic(auto, unfolding(crate::specs::Skeleton::end_text))]
-fn end_of_assignment() -> &'static [u8]
+pub fn end_of_assignment() -> &'static [u8]
     ensures { result.now ≡ end_text }
 {
-    b";\n"
+    b" ; "
 }
 
 /// What follows a text's front, where the text begins so.
@@ -112,13 +105,13 @@ fn leading_number(text: &[u8]) -> Option<(u16, &[u8])>
     }
 }
 
-/// The statement whose line a text begins with, and what follows the line.
-fn first_line(text: &[u8]) -> Option<(StatementKind, &[u8])>
-    ensures line { MatchOption result (IsNoLine text.now)
-        (λ found. IsLineAt text.now found.0 found.1.now) }
+/// The statement that a text begins with, and what follows it.
+fn first_statement(text: &[u8]) -> Option<(StatementKind, &[u8])>
+    ensures statement { MatchOption result (IsNoStatement text.now)
+        (λ found. IsStatementAt text.now found.0 found.1.now) }
     ensures shorter { IfSome result (λ found. length found.1.now < length text.now) }
 {
-    if let Some(rest) = after(text, drop_line()) {
+    if let Some(rest) = after(text, drop_call()) {
         return Some((StatementKind::MarkToDrop, rest));
     }
     let Some(number) = after(text, assignment()) else {
@@ -136,41 +129,18 @@ fn first_line(text: &[u8]) -> Option<(StatementKind, &[u8])>
     ))
 }
 
-/// The statements of a text that is their lines and the skeleton's end.
+/// The statements of a text that is their words and the skeleton's end.
 fn kinds_of(alloc: Global, body: &[u8]) -> Result<Option<Items<StatementKind>>, AllocError>
     ensures { IfOk result
         (λ found. MatchOption found (IsNoBody body.now) (λ kinds. IsBody body.now kinds)) }
 {
     let mut kinds = Items::new(alloc);
     let mut rest = body;
-    while let Some((kind, next)) = first_line(rest) {
+    while let Some((kind, next)) = first_statement(rest) {
         kinds.push(kind)?;
         rest = next;
     }
     Ok(if rest == tail() { Some(kinds) } else { None })
-}
-
-/// Statements with their numbers, one on each line.
-fn placed(alloc: Global, kinds: &[StatementKind]) -> Result<Items<Statement>, AllocError>
-    requires { length kinds.now ≤ MOST_STATEMENTS }
-    ensures { IfOk result (λ statements. statements ≡ placed_from 1 FIRST_LINE kinds.now) }
-{
-    let mut statements = Items::new(alloc);
-    let mut number = 1;
-    for kind in kinds {
-        let place = Span {
-            line: FIRST_LINE + number - 1,
-            column: COLUMN,
-        };
-        let kind = *kind;
-        statements.push(Statement {
-            number,
-            place,
-            kind,
-        })?;
-        number += 1;
-    }
-    Ok(statements)
 }
 
 /// Whether there are more statements than a source that is built has.
@@ -180,12 +150,12 @@ fn are_many(kinds: &[StatementKind]) -> bool
     kinds.len() > MOST_STATEMENTS
 }
 
-/// What the statements of a source do, where it is built.
-fn source_kinds(alloc: Global, source: &[u8]) -> Result<Option<Items<StatementKind>>, AllocError>
-    ensures { IfOk result (λ found. MatchOption found (IsNotBuilt source.now)
-        (λ kinds. IsSourceOf source.now kinds)) }
+/// What the statements do, where the text is that of the skeleton with some.
+pub fn kinds_in(alloc: Global, text: &[u8]) -> Result<Option<Items<StatementKind>>, AllocError>
+    ensures { IfOk result (λ found. MatchOption found (IsNoSkeleton text.now)
+        (λ kinds. IsSkeletonOf text.now kinds)) }
 {
-    let Some(body) = after(source, head()) else {
+    let Some(body) = after(text, head()) else {
         return Ok(None);
     };
     let Some(kinds) = kinds_of(alloc, body)? else {
@@ -195,23 +165,4 @@ fn source_kinds(alloc: Global, source: &[u8]) -> Result<Option<Items<StatementKi
         return Ok(None);
     }
     Ok(Some(kinds))
-}
-
-/// A program, or why its source is refused.
-pub type Built = Result<Program, Refusal>;
-
-/// The program of a source, where it is built.
-pub fn program_of(alloc: Global, source: &[u8]) -> Result<Built, AllocError>
-    ensures { IfOk result (λ built. MatchResult built
-        (λ program. StandsFor source.now program) (λ refusal. IsRefused source.now refusal)) }
-{
-    let Some(kinds) = source_kinds(alloc, source)? else {
-        return Ok(Err(Refusal {
-            code: Code::NotBuilt,
-            line: 1,
-            column: 1,
-        }));
-    };
-    let statements = placed(alloc, kinds.as_slice())?;
-    Ok(Ok(Program { statements }))
 }

@@ -8,8 +8,11 @@ ghost use Rattle.testgen_engine.specs.Source.{ReadsSource, StopsReading};
 use std::alloc::Global;
 use tg_base::{Desk, DeskFault};
 
-/// The most bytes that are taken of a source: one more than a source may have.
-pub const MOST_BYTES: usize = 262_145;
+/// The most bytes that a source may have.
+pub const MAX_BYTES: usize = 262_144;
+
+/// The most bytes that are taken of a source: one more than it may have.
+pub const MOST_BYTES: usize = MAX_BYTES + 1;
 
 /// Opens the source of this name, moves its bytes to the front of the buffer until its end is met
 /// or the buffer is full, and answers how many.

@@ -5,7 +5,7 @@ use Rattle.std.specs.Char.{is_ascii_digit}
 use Rattle.std.specs.List.{prefix_len}
 use Rattle.std.specs.Str.Parse.{AllDigits, digits_value}
 use Rattle.p4_program.specs.declared.v1model.TheConstants.{PORT_END}
-use Rattle.testgen_engine.specs.Lines.{IsPlain, IsNumberAt}
+use Rattle.testgen_engine.specs.Statements.{IsPlain, IsNumberAt}
 use Rattle.testgen_engine.proofs.Digits.{AllDigits-front, no_number-not_plain, no_number-great, number_at}
 use Rattle.testgen_engine.proofs.skeleton.leading_number.Goals as goal
 
