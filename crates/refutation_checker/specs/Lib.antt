@@ -4,6 +4,7 @@ pub mod Acceptance
 pub mod Deciding
 pub mod Cubes
 pub mod Variables
+pub mod VariablesFields
 pub mod Lines
 pub mod Checked
 pub mod AcceptedCubes

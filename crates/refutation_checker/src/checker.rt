@@ -7,13 +7,13 @@ ghost use Rattle.refutation_checker.specs.Acceptance.{FollowsByHints, IsLeastCon
 ghost use Rattle.refutation_checker.specs.Derivation.{known, extended};
 ghost use Rattle.refutation_checker.specs.Lines.{line_of};
 
-use crate::copies::{copy, copy_hints, negations};
+use crate::copies::{copy_hints, negations};
 use crate::cube::is_least_conflict;
 use crate::evidence::{Evidence, is_empty_step, lines};
 use crate::hints::follows;
 use crate::root::{root_of, settle};
-use crate::variables::{declared_variables, highest_variable};
-use cnf_core::{Clause, Clauses, Cube, Lit, Step, Steps};
+use crate::variables::Variables;
+use cnf_core::{Clauses, Cube, Lit, Step, Steps};
 use std::alloc::{AllocError, Global};
 use std::marker::Model;
 use thiserror::Error;
@@ -29,17 +29,16 @@ pub enum CheckFault {
     Memory(AllocError),
 }
 
-/// A formula and the steps and cubes that were accepted, each after those before it. The root has their clauses, and set
-/// what follows from them under no decision, unless that conflicts.
+/// A formula and the steps and cubes that were accepted, each after those before it. The root has their clauses, in
+/// internal numbers, and set what follows from them under no decision, unless that conflicts.
 #[derive(Drop)]
 pub struct Checker {
     alloc: Global,
-    inputs: u32,
+    variables: Variables,
     given: usize,
     root: Propagator,
     conflict: bool,
     evidence: Vec<Evidence>,
-    declared: Vec<bool>,
     hinted: Assignment,
     refuted: bool,
 }
@@ -65,20 +64,19 @@ impl Checker {
         ensures derived { IfOk result (λ c. c.derived ≡ []) }
     {
         let clauses = clauses.as_slice();
-        let width = highest_variable(clauses, inputs) as usize + 1;
-        let declared = declared_variables(alloc, clauses, inputs, width)?;
+        let variables = Variables::new(alloc, clauses, inputs)?;
         let mut hinted = Assignment::new(alloc);
-        hinted.grow(width)?;
-        let mut root = root_of(alloc, clauses, width)?;
+        hinted.grow(variables.width())?;
+        let mut root = root_of(alloc, clauses, &variables)?;
         let conflict = settle(&mut root, false);
+        let evidence = Vec::new(alloc);
         Ok(Checker {
             alloc,
-            inputs,
+            variables,
             given: clauses.len(),
             root,
             conflict,
-            evidence: Vec::new(alloc),
-            declared,
+            evidence,
             hinted,
             refuted: false,
         })
@@ -91,7 +89,7 @@ impl Checker {
         ensures accepted { OnOk result (self.new ≡ extended self.old (StepLine step.now)) }
         ensures kept { OnErr result (self.new ≡ self.old) }
     {
-        if !follows(self.root.clauses(), &mut self.hinted, &self.declared, step) {
+        if !follows(&self.root, &mut self.hinted, &self.variables, step) {
             return Err(CheckFault::BadStep);
         }
         self.add_step(step).map_err(CheckFault::Memory)
@@ -126,8 +124,13 @@ impl Checker {
         ensures lines { IfOk result (λ lines. lines ≡ self.derived) }
         ensures accepted { IsAccepted self }
     {
-        let clauses = self.root.clauses();
-        lines(self.alloc, &clauses[self.given..], self.evidence.as_slice())
+        lines(
+            self.alloc,
+            &self.variables,
+            &self.root,
+            self.given,
+            self.evidence.as_slice(),
+        )
     }
 
     fn is_least_conflict(&mut self, cube: &[Lit]) -> bool
@@ -137,7 +140,7 @@ impl Checker {
         if self.conflict {
             return false;
         }
-        is_least_conflict(&mut self.root, self.inputs, cube)
+        is_least_conflict(&mut self.root, self.variables.inputs(), cube)
     }
 
     fn add_step(&mut self, step: &Step) -> Result<(), AllocError>
@@ -145,9 +148,8 @@ impl Checker {
         ensures added { OnOk result (self.new ≡ extended self.old (StepLine step.now)) }
         ensures kept { OnErr result (self.new ≡ self.old) }
     {
-        let clause = copy(self.alloc, &step.clause)?;
         let hints = copy_hints(self.alloc, &step.hints)?;
-        self.add(clause, Evidence::Hints(hints))
+        self.add(step.clause.as_slice(), Evidence::Hints(hints))
     }
 
     fn add_cube(&mut self, cube: &Cube) -> Result<(), AllocError>
@@ -156,15 +158,16 @@ impl Checker {
         ensures kept { OnErr result (self.new ≡ self.old) }
     {
         let clause = negations(self.alloc, cube)?;
-        self.add(clause, Evidence::Propagation)
+        self.add(clause.as_slice(), Evidence::Propagation)
     }
 
-    fn add(&mut self, clause: Clause, evidence: Evidence) -> Result<(), AllocError>
-        requires { MayFollow self.old (line_of clause evidence) }
-        ensures added { OnOk result (self.new ≡ extended self.old (line_of clause evidence)) }
+    fn add(&mut self, clause: &[Lit], evidence: Evidence) -> Result<(), AllocError>
+        requires { MayFollow self.old (line_of clause.now evidence) }
+        ensures added { OnOk result (self.new ≡ extended self.old (line_of clause.now evidence)) }
         ensures kept { OnErr result (self.new ≡ self.old) }
     {
-        let refutes = is_empty_step(&clause, &evidence);
+        let refutes = is_empty_step(clause, &evidence);
+        let clause = self.variables.internal_clause(self.alloc, clause)?;
         self.evidence.reserve(1)?;
         self.root.add_clause(clause)?;
         self.evidence.push_reserved(evidence);

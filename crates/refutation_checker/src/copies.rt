@@ -1,17 +1,11 @@
-//! Copies of literals, hints and clauses.
+//! Copies of hints, and of literals as their negations.
 
 ghost use Rattle.std.specs.Prelude.{◌≡◌, IfOk, map};
 ghost use Rattle.cnf_core.specs.Literal.{negation};
 
-use cnf_core::{Clause, Cube, Hints, Lit};
+use cnf_core::{Clause, Cube, Hints};
 use sqlite_items::Items;
 use std::alloc::{AllocError, Global};
-
-pub fn copy(alloc: Global, lits: &Items<Lit>) -> Result<Items<Lit>, AllocError>
-    ensures { IfOk result (λ copied. copied ≡ lits.now) }
-{
-    Items::from_slice(alloc, lits.as_slice())
-}
 
 pub fn copy_hints(alloc: Global, hints: &Hints) -> Result<Hints, AllocError>
     ensures { IfOk result (λ copied. copied ≡ hints.now) }

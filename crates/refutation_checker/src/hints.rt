@@ -4,47 +4,72 @@ ghost use Rattle.std.specs.Prelude.{◌≡◌, ◌≤◌, ◌<◌, ◌↔◌, �
 ghost use Rattle.std.specs.Bool.{OnTrue};
 ghost use Rattle.cnf_core.specs.Literal.{negation, IsApart};
 ghost use Rattle.unit_propagation.specs.Units.{IsWithin};
-ghost use Rattle.refutation_checker.specs.Variables.{FollowsAmong};
+ghost use Rattle.refutation_checker.specs.Variables.{width, external_clause, IsNumbering};
+ghost use Rattle.refutation_checker.specs.Variables.{IsApartAmong, FollowsAmong};
 ghost use Rattle.refutation_checker.specs.Hints.{HintsConflict, IsHintState};
 
-use crate::variables::are_declared;
-use cnf_core::{Clause, Lit, Step};
-use unit_propagation::{Assignment, Cause, ClauseState, Truth};
+use crate::variables::Variables;
+use cnf_core::{Lit, Step};
+use unit_propagation::{Assignment, Cause, ClauseState, Propagator, Truth};
 
-/// Whether the step may follow the clauses. Nothing is set before and after.
+/// Whether the step may follow the root's clauses, which have internal numbers. Nothing is set before and after.
 pub fn follows(
-    clauses: &[Clause],
+    root: &Propagator,
     assignment: &mut Assignment,
-    declared: &[bool],
+    variables: &Variables,
     step: &Step,
 ) -> bool
-    requires within { All (IsWithin assignment.old.width) clauses.now }
-    requires declared { length declared.now ≤ assignment.old.width }
+    requires numbering { IsNumbering variables.now }
+    requires within { All (IsWithin (width variables.now)) root.now.clauses }
+    requires width { width variables.now ≤ assignment.old.width }
     requires nothing_set { assignment.old.trail ≡ [] }
-    ensures answer { IsTrue result ↔ FollowsAmong declared.now clauses.now step.now }
+    ensures answer { IsTrue result ↔ FollowsAmong variables.now root.now.clauses step.now }
     ensures width { assignment.new.width ≡ assignment.old.width }
     ensures nothing_set { assignment.new.trail ≡ [] }
 {
-    let clause = step.clause.as_slice();
-    if !are_declared(declared, clause) {
-        return false;
-    }
-    let answer = falsify(assignment, clause)
-        && hints_conflict(clauses, assignment, step.hints.as_slice());
+    let answer = follows_once_falsified(root, assignment, variables, step);
     assignment.undo_to(0);
     answer
 }
 
-/// Sets the literals of the clause false; false where a variable stands twice.
-fn falsify(assignment: &mut Assignment, clause: &[Lit]) -> bool
-    requires within { IsWithin assignment.old.width clause.now }
+/// Whether it may follow, where nothing is set. The literals that it sets stay.
+fn follows_once_falsified(
+    root: &Propagator,
+    assignment: &mut Assignment,
+    variables: &Variables,
+    step: &Step,
+) -> bool
+    requires numbering { IsNumbering variables.now }
+    requires within { All (IsWithin (width variables.now)) root.now.clauses }
+    requires width { width variables.now ≤ assignment.old.width }
     requires nothing_set { assignment.old.trail ≡ [] }
-    ensures answer { IsTrue result ↔ IsApart clause.now }
-    ensures trail { OnTrue result (assignment.new.trail ≡ map negation clause.now) }
+    ensures answer { IsTrue result ↔ FollowsAmong variables.now root.now.clauses step.now }
+    ensures width { assignment.new.width ≡ assignment.old.width }
+{
+    let clause = step.clause.as_slice();
+    let hints = step.hints.as_slice();
+    if !falsify(assignment, variables, clause) {
+        return false;
+    }
+    hints_conflict(root, assignment, hints)
+}
+
+/// Sets the literals of the clause false; false where one is of another variable, or a variable stands twice.
+fn falsify(assignment: &mut Assignment, variables: &Variables, clause: &[Lit]) -> bool
+    requires numbering { IsNumbering variables.now }
+    requires width { width variables.now ≤ assignment.old.width }
+    requires nothing_set { assignment.old.trail ≡ [] }
+    ensures answer { IsTrue result ↔ IsApartAmong variables.now clause.now }
+    ensures trail { OnTrue result
+        (external_clause variables.now assignment.new.trail ≡ map negation clause.now) }
+    ensures within { OnTrue result (IsWithin (width variables.now) assignment.new.trail) }
     ensures width { assignment.new.width ≡ assignment.old.width }
 {
     for l in clause {
-        if !decide_one(assignment, !*l) {
+        let Some(l) = variables.internal(*l) else {
+            return false;
+        };
+        if !decide_one(assignment, !l) {
             return false;
         }
     }
@@ -67,13 +92,13 @@ fn decide_one(assignment: &mut Assignment, l: Lit) -> bool
 }
 
 /// Whether the hints conflict after the literals of the assignment, which may get more of them.
-fn hints_conflict(clauses: &[Clause], assignment: &mut Assignment, hints: &[u32]) -> bool
-    requires { All (IsWithin assignment.old.width) clauses.now }
-    ensures answer { IsTrue result ↔ HintsConflict clauses.now assignment.old.trail hints.now }
+fn hints_conflict(root: &Propagator, assignment: &mut Assignment, hints: &[u32]) -> bool
+    requires { All (IsWithin assignment.old.width) root.now.clauses }
+    ensures answer { IsTrue result ↔ HintsConflict root.now.clauses assignment.old.trail hints.now }
     ensures width { assignment.new.width ≡ assignment.old.width }
 {
     for hint in hints {
-        match hint_state(clauses, *hint, assignment) {
+        match hint_state(root, *hint, assignment) {
             ClauseState::Falsified => return true,
             ClauseState::Unit(l) => assignment.set(l, Cause::implied(*hint as usize)),
             ClauseState::Other => return false,
@@ -82,15 +107,16 @@ fn hints_conflict(clauses: &[Clause], assignment: &mut Assignment, hints: &[u32]
     false
 }
 
-fn hint_state(clauses: &[Clause], number: u32, assignment: &Assignment) -> ClauseState
-    requires { All (IsWithin assignment.now.width) clauses.now }
-    ensures { IsHintState clauses.now assignment.now.trail number result }
+fn hint_state(root: &Propagator, number: u32, assignment: &Assignment) -> ClauseState
+    requires { All (IsWithin assignment.now.width) root.now.clauses }
+    ensures { IsHintState root.now.clauses assignment.now.trail number result }
 {
     let Some(index) = (number as usize).checked_sub(1) else {
         return ClauseState::Other;
     };
-    match clauses.get(index) {
-        Some(clause) => ClauseState::of(clause.as_slice(), assignment),
-        None => ClauseState::Other,
+    if index < root.clause_count() {
+        ClauseState::of(root.literals(index), assignment)
+    } else {
+        ClauseState::Other
     }
 }

@@ -1,7 +1,7 @@
 //! For `refutation_checker`: the record of the two-variable example and its broken forms. The file below tries every set
 //! of full clauses over three variables.
 
-mod full_sets;
+pub mod full_sets;
 
 use crate::signed::{formula, literals};
 use cnf_core::{Derived, Step};
@@ -27,7 +27,7 @@ struct Case {
     refuted: bool,
 }
 
-const SQUARE: &[&[i32]] = &[&[1, 2], &[-1, 2], &[1, -2], &[-1, -2]];
+pub const SQUARE: &[&[i32]] = &[&[1, 2], &[-1, 2], &[1, -2], &[-1, -2]];
 
 const CASES: &[Case] = &[
     Case {
@@ -192,6 +192,39 @@ const CASES: &[Case] = &[
             (Line::Step(&[], &[5, 3, 4]), true),
         ],
         refuted: true,
+    },
+    Case {
+        shows: "a variable of a high number alone",
+        clauses: &[&[30_000_000]],
+        inputs: 1,
+        lines: &[
+            (Line::Cube(&[-1]), false),
+            (Line::Cube(&[-30_000_000]), false),
+            // a variable between those that occur
+            (Line::Step(&[29_999_999], &[1]), false),
+            // clause 1 sets its variable, and nothing is false
+            (Line::Step(&[1], &[1]), false),
+            (Line::Step(&[], &[1]), false),
+            (Line::Step(&[30_000_000], &[1]), true),
+            (Line::Step(&[1, 30_000_000], &[1]), true),
+        ],
+        refuted: false,
+    },
+    Case {
+        shows: "two variables of high numbers",
+        clauses: &[
+            &[30_000_000, 20_000_000],
+            &[30_000_000, -20_000_000],
+            &[-30_000_000, 1],
+        ],
+        inputs: 1,
+        lines: &[
+            (Line::Cube(&[-1]), true),
+            // clause 2 is satisfied once clause 1 has set variable 30,000,000
+            (Line::Step(&[20_000_000], &[1, 2]), false),
+            (Line::Step(&[30_000_000], &[1, 2]), true),
+        ],
+        refuted: false,
     },
     Case {
         shows: "no clauses and no inputs",

@@ -1,7 +1,7 @@
 -- No variable stands twice: in a list with one more literal, in a front, and in the list of negations.
 use Rattle.std.proofs.Common.{◌≡◌, ◌≢◌, ℕ, ◌<◌, refl, List, [], ◌∷◌, ◌++◌, length, get_or, take, drop, map, inl, inr, ap, sym, ◌∙◌, subst, arith, length-append}
 use Rattle.std.specs.Prelude.{Contains}
-use Rattle.std.proofs.lemmas.List.{get_or_append_left, get_or_push, get_or-map, take-append-drop, length-map}
+use Rattle.std.proofs.lemmas.List.{get_or_append_left, get_or_push, get_or-map, get_or-take, take-append-drop, length-map, length-take-le}
 use Rattle.std.proofs.lemmas.List.Elements.{Contains-get_or}
 use Rattle.std.proofs.lemmas.List.Quantifiers.{all_pairs_push}
 use Rattle.cnf_core.specs.declared.formula.Lit.{Lit}
@@ -43,3 +43,9 @@ pub apart_last : (trail : List Lit) (l k : Lit) → IsApart (trail ++ l ∷ []) 
 apart_last trail l k apart (i, inside, at) same =
     apart i (length trail) k inside (omega (arith, length-append trail (l ∷ [])))
     (ap (λ (m : Lit). m.var) (get_or_append_left trail (l ∷ []) k i inside ∙ at) ∙ same ∙ ap (λ (m : Lit). m.var) (sym (get_or_push trail l k (length trail) refl)))
+
+-- and so it does not stand before itself
+pub apart_before : (trail : List Lit) (place : ℕ) (l : Lit) → IsApart trail → place < length trail → l ≡ get_or trail place l → Contains (take place trail) l → ⊥
+apart_before trail place l apart inside is (i, within, at) =
+    let size = length-take-le place trail (omega arith) in
+    apart i place l (omega arith) inside (ap (λ (m : Lit). m.var) (sym (get_or-take place trail i l (omega arith)) ∙ at ∙ is))

@@ -13,7 +13,7 @@ use Rattle.unit_propagation.specs.Units.{IsFalse}
 use Rattle.unit_propagation.specs.declared.pair.Pair.{Pair}
 use Rattle.unit_propagation.specs.Trail.{decided, IsJustified, Explains}
 use Rattle.unit_propagation.specs.Watching.{Watched, IsIndexed, has}
-use Rattle.unit_propagation.specs.Ready.{Ready, AllReady, LooseAreTrue}
+use Rattle.unit_propagation.specs.Ready.{Ready, IsWatched, AllReady, LooseAreTrue}
 use Rattle.unit_propagation.specs.Propagated.{SaysNothing, AreAllSet, IsFalseClause, IsTotal, HasTrueLiterals}
 use Rattle.unit_propagation.proofs.PairLemmas.{has_contains, contains_has, watches_first, watches_second}
 
@@ -111,7 +111,10 @@ nothing_two trail clause x y x_stands y_stands differ x_free y_free = (
 -- where all clauses are ready for the whole trail, none says anything
 pub fixed : (w : Watched) (trail : List Lit) → IsIndexed w.width w.clauses w.pairs w.lists → ((l : Lit) → Contains trail l → Contains trail (negation l) → ⊥) →
     AllReady w.clauses w.pairs trail trail → LooseAreTrue w.clauses w.pairs trail → All (SaysNothing trail) w.clauses
-fixed w trail h consistent ready loose c clause inside = says (ready c no_pair clause within) where
+fixed w trail h consistent ready loose c clause inside = elim (lit-cases p.first p.second) [
+  | inl same ↦ nothing_true trail (get_or w.clauses c clause) consistent (loose c no_pair clause within same)
+  | inr differ ↦ says differ (ready c no_pair clause within differ)
+] where
   no_pair : Pair
   no_pair = record { first = no_lit; second = no_lit }
 
@@ -121,13 +124,10 @@ fixed w trail h consistent ready loose c clause inside = says (ready c no_pair c
   p : Pair
   p = get_or w.pairs c no_pair
 
-  says : Ready trail trail p (get_or w.clauses c clause) → SaysNothing trail (get_or w.clauses c clause)
-  says (inl is) = nothing_true trail (get_or w.clauses c clause) consistent is
-  says (inr (a, b)) = elim (lit-cases p.first p.second) [
-    | inl same ↦ nothing_true trail (get_or w.clauses c clause) consistent (loose c no_pair clause within same)
-    | inr differ ↦ nothing_two trail (get_or w.clauses c clause) p.first p.second
-        (h.stands c no_pair clause within p.first (watches_first p p.first differ refl)) (h.stands c no_pair clause within p.second (watches_second p p.second differ refl)) differ a b
-  ]
+  says : IsWatched p → Ready trail trail p (get_or w.clauses c clause) → SaysNothing trail (get_or w.clauses c clause)
+  says differ (inl is) = nothing_true trail (get_or w.clauses c clause) consistent is
+  says differ (inr (a, b)) = nothing_two trail (get_or w.clauses c clause) p.first p.second
+      (h.stands c no_pair clause within p.first (watches_first p p.first differ refl)) (h.stands c no_pair clause within p.second (watches_second p p.second differ refl)) differ a b
 
 closed_fixed : (clauses : List (List Lit)) (decisions trail : List Lit) → ((l : Lit) → Contains decisions l → Contains trail l) →
     All (SaysNothing trail) clauses → IsClosed clauses decisions (λ l. has l trail)

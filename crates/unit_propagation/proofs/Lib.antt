@@ -1,3 +1,4 @@
+pub mod ClauseListLemmas
 pub mod ApartLaws
 pub mod AgreesLemmas
 pub mod ListLemmas
@@ -5,6 +6,7 @@ pub mod PairLemmas
 pub mod CountLemmas
 pub mod IndexedLemmas
 pub mod ReadyLemmas
+pub mod LooseLemmas
 pub mod TrailLemmas
 pub mod VisitLemmas
 pub mod FixpointLemmas

@@ -3,41 +3,41 @@ use Rattle.std.proofs.Common.{◌≡◌, ◌⊎◌, ℕ, ◌+◌, ◌<◌, ◌�
 use Rattle.std.specs.Prelude.{Any, Contains}
 use Rattle.std.proofs.Math.ListN.{set}
 use Rattle.std.proofs.lemmas.Bool.{cases_eq, cases_Bool, both_ways}
-use Rattle.std.proofs.lemmas.List.{get_or-set_same, get_or-set_other, get_or_default, get_or_append_left, length-set, take-append-le, take_more, drop_all, take-append-drop}
+use Rattle.std.proofs.lemmas.List.{get_or-set_same, get_or-set_other, get_or_default, get_or_append_left, length-set, take-append-le, take_more, take-take, drop_all, take-append-drop}
 use Rattle.std.proofs.lemmas.List.Elements.{Contains-append_left, Contains-push_cases, Contains-push, All-contains}
 use Rattle.cnf_core.specs.declared.formula.Lit.{Lit}
 use Rattle.cnf_core.specs.Literal.{negation}
-use Rattle.cnf_core.proofs.Literals.{lit-cases, negation_negation}
+use Rattle.cnf_core.proofs.Literals.{negation_negation}
 use Rattle.unit_propagation.specs.Units.{IsFalse}
 use Rattle.unit_propagation.specs.declared.pair.Pair.{Pair}
 use Rattle.unit_propagation.specs.Watching.{Watched, IsIndexed, IsOther, watches, pair_of, list_at}
-use Rattle.unit_propagation.specs.Ready.{Ready, AllReady, LooseAreTrue, KeepsReady, WatchMoved, IsDone, clause_at}
-use Rattle.unit_propagation.proofs.PairLemmas.{watches_first, watches_second}
+use Rattle.unit_propagation.specs.Ready.{Ready, IsWatched, AllReady, KeepsReady, WatchMoved, IsDone, clause_at}
+use Rattle.unit_propagation.proofs.PairLemmas.{watches_first, watches_second, other_differ}
 use Rattle.unit_propagation.proofs.ListLemmas.{drop_swap_remove}
 
 -- each clause is ready past the head, or ready before it and still ahead in the list
 abbrev pub Visiting : List (List Lit) → List Pair → List (List ℕ) → List Lit → ℕ → Lit → ℕ → Type 0
 Visiting clauses pairs lists trail head falsified place =
-    (c : ℕ) (p : Pair) (clause : List Lit) → c < length pairs →
+    (c : ℕ) (p : Pair) (clause : List Lit) → c < length pairs → IsWatched (get_or pairs c p) →
     Ready trail (take (head + 1) trail) (get_or pairs c p) (get_or clauses c clause) ⊎
     (Ready trail (take head trail) (get_or pairs c p) (get_or clauses c clause) × Contains (drop place (list_at lists falsified)) c)
 
-any_grows : (trail more clause : List Lit) → Any (Contains trail) clause → Any (Contains (trail ++ more)) clause
+pub any_grows : (trail more clause : List Lit) → Any (Contains trail) clause → Any (Contains (trail ++ more)) clause
 any_grows trail more clause (k, x, inside, at, is) = (k, x, inside, at, Contains-append_left trail more x is)
-
-pub loose_grows : (clauses : List (List Lit)) (pairs : List Pair) (trail more : List Lit) → LooseAreTrue clauses pairs trail → LooseAreTrue clauses pairs (trail ++ more)
-loose_grows clauses pairs trail more h c p clause inside same = any_grows trail more (get_or clauses c clause) (h c p clause inside same)
 
 pub ready_grows : (trail more past : List Lit) (p : Pair) (clause : List Lit) → Ready trail past p clause → Ready (trail ++ more) past p clause
 ready_grows trail more past p clause (inl is) = inl (any_grows trail more clause is)
 ready_grows trail more past p clause (inr free) = inr free
 
-ready_fewer : (trail past fewer : List Lit) (p : Pair) (clause : List Lit) → ((x : Lit) → Contains fewer x → Contains past x) → Ready trail past p clause → Ready trail fewer p clause
+pub ready_fewer : (trail past fewer : List Lit) (p : Pair) (clause : List Lit) → ((x : Lit) → Contains fewer x → Contains past x) → Ready trail past p clause → Ready trail fewer p clause
 ready_fewer trail past fewer p clause within (inl is) = inl is
 ready_fewer trail past fewer p clause within (inr (a, b)) = inr ((λ h. a (within (negation p.first) h)), (λ h. b (within (negation p.second) h)))
 
 pub take_within : (trail : List Lit) (n : ℕ) (x : Lit) → Contains (take n trail) x → Contains trail x
 take_within trail n x h = subst (λ (t : List Lit). Contains t x) (take-append-drop n trail) (Contains-append_left (take n trail) (drop n trail) x h)
+
+pub take_less : (trail : List Lit) (n m : ℕ) (x : Lit) → n ≤ m → Contains (take n trail) x → Contains (take m trail) x
+take_less trail n m x few h = take_within (take m trail) n x (subst (λ (t : List Lit). Contains t x) (sym (take-take n m trail few)) h)
 
 -- a literal that is falsified past the head was falsified before, or by the literal at the head
 false_next : (trail : List Lit) (head : ℕ) (l x : Lit) → head < length trail → get_or trail head l ≡ l → IsFalse (take (head + 1) trail) x →
@@ -53,33 +53,30 @@ falsified_next trail head l inside at = subst (λ (t : List Lit). Contains t (ne
 
 -- a clause that does not watch the falsified literal is ready past the head
 ready_next : (trail : List Lit) (head : ℕ) (l : Lit) (p : Pair) (clause : List Lit) → head < length trail → get_or trail head l ≡ l →
-    watches p (negation l) ≡ false → (p.first ≡ p.second → Any (Contains trail) clause) → Ready trail (take head trail) p clause → Ready trail (take (head + 1) trail) p clause
-ready_next trail head l p clause inside at apart loose (inl is) = inl is
-ready_next trail head l p clause inside at apart loose (inr (a, b)) = elim (lit-cases p.first p.second) [
-  | inl same ↦ inl (loose same)
-  | inr differ ↦ inr (
-    (λ h. elim (false_next trail head l p.first inside at h) [ inl before ↦ a before | inr is ↦ both_ways (watches p (negation l)) apart (watches_first p (negation l) differ is) ]),
-    (λ h. elim (false_next trail head l p.second inside at h) [ inl before ↦ b before | inr is ↦ both_ways (watches p (negation l)) apart (watches_second p (negation l) differ is) ]),
-  )
-]
+    watches p (negation l) ≡ false → IsWatched p → Ready trail (take head trail) p clause → Ready trail (take (head + 1) trail) p clause
+ready_next trail head l p clause inside at apart differ (inl is) = inl is
+ready_next trail head l p clause inside at apart differ (inr (a, b)) = inr (
+  (λ h. elim (false_next trail head l p.first inside at h) [ inl before ↦ a before | inr is ↦ both_ways (watches p (negation l)) apart (watches_first p (negation l) differ is) ]),
+  (λ h. elim (false_next trail head l p.second inside at h) [ inl before ↦ b before | inr is ↦ both_ways (watches p (negation l)) apart (watches_second p (negation l) differ is) ]),
+)
 
 pub visiting_start : (w : Watched) (trail : List Lit) (head : ℕ) (l : Lit) → IsIndexed w.width w.clauses w.pairs w.lists → head < length trail → get_or trail head l ≡ l →
-    LooseAreTrue w.clauses w.pairs trail → AllReady w.clauses w.pairs trail (take head trail) → Visiting w.clauses w.pairs w.lists trail head (negation l) 0
-visiting_start w trail head l h inside at loose ready c p clause within = elim (cases_Bool (watches (get_or w.pairs c p) (negation l))) [
-  | inl is ↦ inr (ready c p clause within, h.listed c p within (negation l) is)
-  | inr apart ↦ inl (ready_next trail head l (get_or w.pairs c p) (get_or w.clauses c clause) inside at apart (loose c p clause within) (ready c p clause within))
+    AllReady w.clauses w.pairs trail (take head trail) → Visiting w.clauses w.pairs w.lists trail head (negation l) 0
+visiting_start w trail head l h inside at ready c p clause within differ = elim (cases_Bool (watches (get_or w.pairs c p) (negation l))) [
+  | inl is ↦ inr (ready c p clause within differ, h.listed c p within (negation l) is)
+  | inr apart ↦ inl (ready_next trail head l (get_or w.pairs c p) (get_or w.clauses c clause) inside at apart differ (ready c p clause within differ))
 ]
 
 -- all clauses are ready past the head where no list is needed
 pub visiting_none : (w : Watched) (trail : List Lit) (head : ℕ) (l : Lit) → IsIndexed w.width w.clauses w.pairs w.lists → head < length trail → get_or trail head l ≡ l →
-    w.width ≤ l.var → LooseAreTrue w.clauses w.pairs trail → AllReady w.clauses w.pairs trail (take head trail) → AllReady w.clauses w.pairs trail (take (head + 1) trail)
-visiting_none w trail head l h inside at past loose ready c p clause within = elim (cases_Bool (watches (get_or w.pairs c p) (negation l))) [
+    w.width ≤ l.var → AllReady w.clauses w.pairs trail (take head trail) → AllReady w.clauses w.pairs trail (take (head + 1) trail)
+visiting_none w trail head l h inside at past ready c p clause within differ = elim (cases_Bool (watches (get_or w.pairs c p) (negation l))) [
   | inl is ↦
       let size = h.paired in
       let stands : Contains (get_or w.clauses c clause) (negation l) = h.stands c p clause within (negation l) is in
       let below : (negation l).var < w.width = All-contains (λ k. k.var < w.width) (get_or w.clauses c clause) (negation l) (h.within c clause (omega arith)) stands in
       absurd (omega arith)
-  | inr apart ↦ ready_next trail head l (get_or w.pairs c p) (get_or w.clauses c clause) inside at apart (loose c p clause within) (ready c p clause within)
+  | inr apart ↦ ready_next trail head l (get_or w.pairs c p) (get_or w.clauses c clause) inside at apart differ (ready c p clause within differ)
 ]
 
 take_same : (trail more : List Lit) (n : ℕ) → n ≤ length trail → take n (trail ++ more) ≡ take n trail
@@ -87,10 +84,10 @@ take_same trail more n inside = take-append-le n trail more inside
 
 -- a clause is passed that does not watch the literal, or has a true literal
 pub visiting_kept : (w : Watched) (trail more : List Lit) (head : ℕ) (l : Lit) (place : ℕ) → head < length trail → get_or trail head l ≡ l →
-    place < length (list_at w.lists (negation l)) → LooseAreTrue w.clauses w.pairs (trail ++ more) →
+    place < length (list_at w.lists (negation l)) →
     IsDone w (trail ++ more) (negation l) (clause_at w (negation l) place) →
     Visiting w.clauses w.pairs w.lists trail head (negation l) place → Visiting w.clauses w.pairs w.lists (trail ++ more) head (negation l) (place + 1)
-visiting_kept w trail more head l place inside at here loose done visiting c p clause within = elim (visiting c p clause within) [
+visiting_kept w trail more head l place inside at here done visiting c p clause within differ = elim (visiting c p clause within differ) [
   | inl ready ↦ inl (subst (λ (past : List Lit). Ready (trail ++ more) past (get_or w.pairs c p) (get_or w.clauses c clause)) (sym (take_same trail more (head + 1) (omega arith)))
       (ready_grows trail more (take (head + 1) trail) (get_or w.pairs c p) (get_or w.clauses c clause) ready))
   | inr (ready, ahead) ↦ step (grown ready) (first ahead)
@@ -120,7 +117,7 @@ visiting_kept w trail more head l place inside at here loose done visiting c p c
   step ready (inr later) = inr (ready, later)
   step ready (inl same) = elim done [
     | inl apart ↦ inl (ready_next (trail ++ more) head l (get_or w.pairs c p) (get_or w.clauses c clause) (omega (arith, length-append trail more)) at_more
-        (subst (λ (k : ℕ). watches (get_or w.pairs k p) (negation l) ≡ false) same (apart p)) (loose c p clause within) ready)
+        (subst (λ (k : ℕ). watches (get_or w.pairs k p) (negation l) ≡ false) same (apart p)) differ ready)
     | inr is ↦ inl (inl (subst (λ (k : ℕ). Any (Contains (trail ++ more)) (get_or w.clauses k clause)) same (is clause)))
   ]
 
@@ -136,7 +133,7 @@ visiting_moved w new trail head l place inside at here exists moved visiting = s
   q = pair_of moved.other moved.to
 
   free : (clause : List Lit) → Ready trail (take (head + 1) trail) q (get_or w.clauses c clause)
-  free clause = elim (visiting c q clause exists) [
+  free clause = elim (visiting c q clause exists (other_differ (get_or w.pairs c q) (negation l) moved.other (moved.pair q))) [
     | inl (inl is) ↦ inl is
     | inl (inr (a, b)) ↦ absurd (elim (moved.pair q).1 [
       | inl (first, second) ↦ a (subst (λ (x : Lit). IsFalse (take (head + 1) trail) x) (sym first) (falsified_next trail head l inside at))
@@ -156,13 +153,13 @@ visiting_moved w new trail head l place inside at here exists moved visiting = s
   ]
 
   all : Visiting w.clauses (set w.pairs c q) new.lists trail head (negation l) place
-  all k p clause within = elim (cases_eq k c) [
+  all k p clause within differ = elim (cases_eq k c) [
     | inl same ↦ inl (subst (λ (pair : Pair). Ready trail (take (head + 1) trail) pair (get_or w.clauses k clause)) (sym (ap (λ (i : ℕ). get_or (set w.pairs c q) i p) same ∙ get_or-set_same w.pairs c q p exists))
         (subst (λ (i : ℕ). Ready trail (take (head + 1) trail) q (get_or w.clauses i clause)) (sym same) (free clause)))
     | inr differs ↦
         let size = length-set w.pairs c q in
         let pair_is = get_or-set_other w.pairs c k q p differs in
-        elim (visiting k p clause (omega arith)) [
+        elim (visiting k p clause (omega arith) (subst IsWatched pair_is differ)) [
           | inl ready ↦ inl (subst (λ (pair : Pair). Ready trail (take (head + 1) trail) pair (get_or w.clauses k clause)) (sym pair_is) ready)
           | inr (ready, ahead) ↦ inr (
             subst (λ (pair : Pair). Ready trail (take head trail) pair (get_or w.clauses k clause)) (sym pair_is) ready,
@@ -174,7 +171,7 @@ visiting_moved w new trail head l place inside at here exists moved visiting = s
 
 pub visiting_end : (clauses : List (List Lit)) (pairs : List Pair) (lists : List (List ℕ)) (trail : List Lit) (head : ℕ) (falsified : Lit) (place : ℕ) →
     length (list_at lists falsified) ≤ place → Visiting clauses pairs lists trail head falsified place → AllReady clauses pairs trail (take (head + 1) trail)
-visiting_end clauses pairs lists trail head falsified place past visiting c p clause within = elim (visiting c p clause within) [
+visiting_end clauses pairs lists trail head falsified place past visiting c p clause within differ = elim (visiting c p clause within differ) [
   | inl ready ↦ ready
   | inr (ready, ahead) ↦ absurd (none (subst (λ (cs : List ℕ). Contains cs c) (drop_all place (list_at lists falsified) past) ahead))
 ] where
@@ -183,7 +180,7 @@ visiting_end clauses pairs lists trail head falsified place past visiting c p cl
 
 pub visiting_stop : (clauses : List (List Lit)) (pairs : List Pair) (lists : List (List ℕ)) (trail : List Lit) (head : ℕ) (falsified : Lit) (place : ℕ) →
     head < length trail → Visiting clauses pairs lists trail head falsified place → AllReady clauses pairs trail (take head trail)
-visiting_stop clauses pairs lists trail head falsified place inside visiting c p clause within = elim (visiting c p clause within) [
+visiting_stop clauses pairs lists trail head falsified place inside visiting c p clause within differ = elim (visiting c p clause within differ) [
   | inl ready ↦ ready_fewer trail (take (head + 1) trail) (take head trail) (get_or pairs c p) (get_or clauses c clause) (λ x h. more x h) ready
   | inr (ready, ahead) ↦ ready
 ] where
@@ -191,18 +188,17 @@ visiting_stop clauses pairs lists trail head falsified place inside visiting c p
   more x h = subst (λ (t : List Lit). Contains t x) (sym (take_more trail head x inside)) (Contains-append_left (take head trail) (get_or trail head x ∷ []) x h)
 
 pub keeps_none : (clauses : List (List Lit)) (pairs : List Pair) (trail : List Lit) → KeepsReady clauses pairs pairs trail
-keeps_none clauses pairs trail = record { size = refl; ready = λ part within h. h; loose = λ part h. h; pairs = λ c p inside same. same }
+keeps_none clauses pairs trail = record { size = refl; ready = λ part within h. h; pairs = λ c p inside same. same }
 
 pub keeps_then : (clauses : List (List Lit)) (old mid new : List Pair) (trail more : List Lit) → KeepsReady clauses old mid trail → KeepsReady clauses mid new (trail ++ more) → KeepsReady clauses old new trail
 keeps_then clauses old mid new trail more first then = record {
   size = then.size ∙ first.size;
   ready = λ part within h. then.ready part (λ x stands. Contains-append_left trail more x (within x stands)) (first.ready part within h);
-  loose = λ part h. then.loose part (first.loose part h);
   pairs = λ c p inside same. first.pairs c p (let size = then.size in omega arith) (then.pairs c p inside same);
 }
 
 pub keeps_moved : (w new : Watched) (trail : List Lit) (from : Lit) (place : ℕ) → clause_at w from place < length w.pairs → WatchMoved w new trail from place → KeepsReady w.clauses w.pairs new.pairs trail
-keeps_moved w new trail from place exists moved = subst (λ (ps : List Pair). KeepsReady w.clauses w.pairs ps trail) (sym moved.pairs) (record { size = longer; ready = ready; loose = loose; pairs = pairs }) where
+keeps_moved w new trail from place exists moved = subst (λ (ps : List Pair). KeepsReady w.clauses w.pairs ps trail) (sym moved.pairs) (record { size = longer; ready = ready; pairs = pairs }) where
   c : ℕ
   c = clause_at w from place
 
@@ -216,10 +212,14 @@ keeps_moved w new trail from place exists moved = subst (λ (ps : List Pair). Ke
   here k p same = ap (λ (i : ℕ). get_or (set w.pairs c q) i p) same ∙ get_or-set_same w.pairs c q p exists
 
   ready : (part : List Lit) → ((x : Lit) → Contains part x → Contains trail x) → AllReady w.clauses w.pairs part part → AllReady w.clauses (set w.pairs c q) part part
-  ready part within h k p clause inside = elim (cases_eq k c) [
-    | inl same ↦ subst (λ (pair : Pair). Ready part part pair (get_or w.clauses k clause)) (sym (here k p same)) (free same (h k q clause (omega (arith, longer))))
-    | inr differs ↦ subst (λ (pair : Pair). Ready part part pair (get_or w.clauses k clause)) (sym (get_or-set_other w.pairs c k q p differs)) (h k p clause (omega (arith, longer)))
+  ready part within h k p clause inside differ = elim (cases_eq k c) [
+    | inl same ↦ subst (λ (pair : Pair). Ready part part pair (get_or w.clauses k clause)) (sym (here k p same)) (free same (h k q clause (omega (arith, longer)) (watched same)))
+    | inr differs ↦ subst (λ (pair : Pair). Ready part part pair (get_or w.clauses k clause)) (sym (get_or-set_other w.pairs c k q p differs))
+        (h k p clause (omega (arith, longer)) (subst IsWatched (get_or-set_other w.pairs c k q p differs) differ))
   ] where
+    watched : k ≡ c → IsWatched (get_or w.pairs k q)
+    watched same = subst (λ (i : ℕ). IsWatched (get_or w.pairs i q)) (sym same) (other_differ (get_or w.pairs c q) from moved.other (moved.pair q))
+
     free : k ≡ c → Ready part part (get_or w.pairs k q) (get_or w.clauses k clause) → Ready part part q (get_or w.clauses k clause)
     free same (inl is) = inl is
     free same (inr (a, b)) = inr (
@@ -229,12 +229,6 @@ keeps_moved w new trail from place exists moved = subst (λ (ps : List Pair). Ke
       ]),
       (λ h. moved.not_false (within (negation moved.to) h)),
     )
-
-  loose : (part : List Lit) → LooseAreTrue w.clauses w.pairs part → LooseAreTrue w.clauses (set w.pairs c q) part
-  loose part h k p clause inside same_pair = elim (cases_eq k c) [
-    | inl same ↦ absurd (moved.not_other (sym (subst (λ (pair : Pair). pair.first ≡ pair.second) (here k p same) same_pair)))
-    | inr differs ↦ h k p clause (omega (arith, longer)) (subst (λ (pair : Pair). pair.first ≡ pair.second) (get_or-set_other w.pairs c k q p differs) same_pair)
-  ]
 
   pairs : (k : ℕ) (p : Pair) → k < length (set w.pairs c q) → (get_or (set w.pairs c q) k p).first ≡ (get_or (set w.pairs c q) k p).second → (get_or w.pairs k p).first ≡ (get_or w.pairs k p).second
   pairs k p inside same_pair = elim (cases_eq k c) [

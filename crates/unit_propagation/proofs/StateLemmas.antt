@@ -1,25 +1,28 @@
 -- The state of a propagator: when propagation goes on, when a literal is decided or undone, and with one clause more.
-use Rattle.std.proofs.Common.{◌≡◌, ℕ, ◌+◌, ◌-◌, ◌<◌, ◌≤◌, true, false, Option, Some, None, List, [], ◌∷◌, ◌++◌, length, get_or, take, inl, inr, refl, ap, sym, ◌∙◌, subst, arith, length-append}
-use Rattle.std.specs.Prelude.{All, Any, Contains}
+use Rattle.std.proofs.Common.{◌≡◌, ℕ, ◌+◌, ◌-◌, ◌<◌, ◌≤◌, true, false, Option, Some, None, List, [], ◌∷◌, ◌++◌, length, get_or, take, min, inl, inr, refl, ap, sym, ◌∙◌, subst, arith, length-append}
+use Rattle.std.specs.Prelude.{Any, Contains}
 use Rattle.std.proofs.lemmas.Bool.{cases_lt, both_ways}
 use Rattle.std.proofs.lemmas.List.{get_or_append_left, get_or-append_right, get_or_push, get_or-take, length-map, length_push, length-take-le, map-append, take-map, take-append-le, take-take, take_all}
 use Rattle.std.proofs.lemmas.List.Elements.{All-push, All-contains, All-weaker, Contains-append_left, Contains-push}
 use Rattle.std.proofs.lemmas.Option.{slice_get-get_or, get_or_from_slice_get, slice_get_within}
 use Rattle.cnf_core.specs.declared.formula.Lit.{Lit}
 use Rattle.cnf_core.specs.Literal.{negation}
-use Rattle.unit_propagation.specs.Units.{IsFalse, IsUnit}
+use Rattle.unit_propagation.specs.Units.{IsUnit}
 use Rattle.unit_propagation.specs.declared.pair.Pair.{Pair}
 use Rattle.unit_propagation.specs.declared.assignment.Cause.{Cause}
-use Rattle.unit_propagation.specs.Trail.{IsJustified, Implies, Explains, reasons_of}
-use Rattle.unit_propagation.specs.Ready.{Ready, AllReady, LooseAreTrue, KeepsReady, EndsReady}
+use Rattle.unit_propagation.specs.Trail.{IsJustified, Implies, Explains, EndsUpTo, reasons_of}
+use Rattle.unit_propagation.specs.Ready.{Ready, IsWatched, AreFree, AllReady, LooseAreTrue, KeepsReady, EndsReady}
 use Rattle.unit_propagation.specs.Loose.{AreTrue, IsLoose, IsOne, ListsLoose, AreLoose, NotesLoose}
 use Rattle.unit_propagation.specs.Propagation.{Propagation, Continues, IsEnd}
 use Rattle.unit_propagation.specs.PropagatorFields.{IsState}
 use Rattle.unit_propagation.proofs.TrailLemmas.{justified_push}
-use Rattle.unit_propagation.proofs.ReadyLemmas.{ready_grows, take_within, keeps_none}
+use Rattle.unit_propagation.proofs.ReadyLemmas.{ready_grows, ready_fewer, take_within, take_less, keeps_none}
 
 pub all_ready_grows : (clauses : List (List Lit)) (pairs : List Pair) (trail more past : List Lit) → AllReady clauses pairs trail past → AllReady clauses pairs (trail ++ more) past
-all_ready_grows clauses pairs trail more past h c p clause inside = ready_grows trail more past (get_or pairs c p) (get_or clauses c clause) (h c p clause inside)
+all_ready_grows clauses pairs trail more past h c p clause inside differ = ready_grows trail more past (get_or pairs c p) (get_or clauses c clause) (h c p clause inside differ)
+
+pub all_ready_fewer : (clauses : List (List Lit)) (pairs : List Pair) (trail past fewer : List Lit) → ((x : Lit) → Contains fewer x → Contains past x) → AllReady clauses pairs trail past → AllReady clauses pairs trail fewer
+all_ready_fewer clauses pairs trail past fewer within h c p clause inside differ = ready_fewer trail past fewer (get_or pairs c p) (get_or clauses c clause) within (h c p clause inside differ)
 
 -- literals that follow are set, and watches moved
 pub state_continues : (clauses : List (List Lit)) (pairs new_pairs : List Pair) (trail new : List Lit) (causes new_causes : List Cause) (head new_head : ℕ) (loose : List ℕ) →
@@ -100,13 +103,13 @@ state_undone clauses pairs trail causes head place end loose s inside is_end = r
   are_loose = s.are_loose;
 } where
   ready_at : AllReady clauses pairs (take end trail) (take end trail) → AllReady clauses pairs (take place trail) (take end (take place trail))
-  ready_at h c p clause within = subst (λ (past : List Lit). Ready (take place trail) past (get_or pairs c p) (get_or clauses c clause)) (sym (take-take end place trail is_end.0)) (widen (h c p clause within)) where
+  ready_at h c p clause within differ = subst (λ (past : List Lit). Ready (take place trail) past (get_or pairs c p) (get_or clauses c clause)) (sym (take-take end place trail is_end.0)) (widen (h c p clause within differ)) where
     widen : Ready (take end trail) (take end trail) (get_or pairs c p) (get_or clauses c clause) → Ready (take place trail) (take end trail) (get_or pairs c p) (get_or clauses c clause)
     widen (inr free) = inr free
     widen (inl (k, x, below, at, is)) = inl (k, x, below, at, take_within (take place trail) end x (subst (λ (t : List Lit). Contains t x) (sym (take-take end place trail is_end.0)) is))
 
   none_falsified : end ≡ 0 → AllReady clauses pairs (take place trail) (take end (take place trail))
-  none_falsified zero_end c p clause within = inr (
+  none_falsified zero_end c p clause within differ = inr (
     (λ h. nothing (negation (get_or pairs c p).first) (subst (λ (n : ℕ). Contains (take n (take place trail)) (negation (get_or pairs c p).first)) zero_end h)),
     (λ h. nothing (negation (get_or pairs c p).second) (subst (λ (n : ℕ). Contains (take n (take place trail)) (negation (get_or pairs c p).second)) zero_end h)),
   ) where
@@ -141,8 +144,8 @@ state_undone clauses pairs trail causes head place end loose s inside is_end = r
 -- one clause more, whose watched literals are ready for the literals before the head
 pub state_more : (clauses : List (List Lit)) (clause : List Lit) (pairs : List Pair) (p : Pair) (trail : List Lit) (causes new_causes : List Cause) (head new_head : ℕ) (loose new_loose : List ℕ) →
     IsState clauses pairs trail causes head loose → (p.first ≡ p.second → IsOne clause) → NotesLoose p (length clauses) loose new_loose →
-    reasons_of new_causes ≡ reasons_of causes → new_head ≤ head → AllReady clauses pairs trail (take new_head trail) → Ready trail (take new_head trail) p clause →
-    ((n : ℕ) (c : Cause) → n < length new_causes → (get_or new_causes n c).ended ≡ true → AllReady clauses pairs (take n trail) (take n trail) × Ready (take n trail) (take n trail) p clause) →
+    reasons_of new_causes ≡ reasons_of causes → new_head ≤ head → AllReady clauses pairs trail (take new_head trail) → (IsWatched p → Ready trail (take new_head trail) p clause) →
+    ((n : ℕ) (c : Cause) → n < length new_causes → (get_or new_causes n c).ended ≡ true → AllReady clauses pairs (take n trail) (take n trail) × (IsWatched p → Ready (take n trail) (take n trail) p clause)) →
     IsState (clauses ++ clause ∷ []) (pairs ++ p ∷ []) trail new_causes new_head new_loose
 state_more clauses clause pairs p trail causes new_causes head new_head loose new_loose s one notes reasons fewer ready new_ready ends = record {
   head_within = let inside = s.head_within in omega arith;
@@ -154,16 +157,17 @@ state_more clauses clause pairs p trail causes new_causes head new_head loose ne
   listed = listed;
   are_loose = are_loose;
 } where
-  add : (t past : List Lit) → AllReady clauses pairs t past → Ready t past p clause → AllReady (clauses ++ clause ∷ []) (pairs ++ p ∷ []) t past
-  add t past h here c d e inside = elim (cases_lt c (length pairs)) [
+  add : (t past : List Lit) → AllReady clauses pairs t past → (IsWatched p → Ready t past p clause) → AllReady (clauses ++ clause ∷ []) (pairs ++ p ∷ []) t past
+  add t past h here c d e inside differ = elim (cases_lt c (length pairs)) [
     | inl before ↦
         let same = s.paired in
         subst (λ (q : Pair). Ready t past q (get_or (clauses ++ clause ∷ []) c e)) (sym (get_or_append_left pairs (p ∷ []) d c before))
-        (subst (Ready t past (get_or pairs c d)) (sym (get_or_append_left clauses (clause ∷ []) e c (omega arith))) (h c d e before))
+        (subst (Ready t past (get_or pairs c d)) (sym (get_or_append_left clauses (clause ∷ []) e c (omega arith)))
+        (h c d e before (subst IsWatched (get_or_append_left pairs (p ∷ []) d c before) differ)))
     | inr past_end ↦
         let at : c ≡ length pairs = omega (arith, length-append pairs (p ∷ [])) in
         subst (λ (q : Pair). Ready t past q (get_or (clauses ++ clause ∷ []) c e)) (sym (get_or_push pairs p d c (sym at)))
-        (subst (Ready t past p) (sym (get_or_push clauses clause e c (sym (at ∙ s.paired)))) here)
+        (subst (Ready t past p) (sym (get_or_push clauses clause e c (sym (at ∙ s.paired)))) (here (subst IsWatched (get_or_push pairs p d c (sym at)) differ)))
   ]
 
   justified : IsJustified (clauses ++ clause ∷ []) trail (reasons_of new_causes)
@@ -272,30 +276,21 @@ continues_is old width clauses trail new causes new_causes new_width new_clauses
       decides = implies.decides sized;
     })
 
--- nothing is falsified before the start
-pub ready_start : (trail : List Lit) (p : Pair) (clause : List Lit) → Ready trail [] p clause
-ready_start trail p clause = inr ((λ h. nothing (negation p.first) h), (λ h. nothing (negation p.second) h)) where
-  nothing : (l : Lit) → Contains [] l → ⊥
-  nothing l (k, below, at) = absurd (omega arith)
-
--- with one clause more whose watched literals are not false
-pub state_more_free : (clauses : List (List Lit)) (clause : List Lit) (pairs : List Pair) (p : Pair) (trail : List Lit) (causes : List Cause) (head : ℕ) (loose new_loose : List ℕ) →
+-- with one clause more, whose watched literals are not falsified before a place
+pub state_more_chosen : (clauses : List (List Lit)) (clause : List Lit) (pairs : List Pair) (p : Pair) (trail : List Lit) (causes new_causes : List Cause) (head place : ℕ) (loose new_loose : List ℕ) →
     IsState clauses pairs trail causes head loose → (p.first ≡ p.second → IsOne clause) → NotesLoose p (length clauses) loose new_loose →
-    (IsFalse trail p.first → ⊥) → (IsFalse trail p.second → ⊥) → IsState (clauses ++ clause ∷ []) (pairs ++ p ∷ []) trail causes head new_loose
-state_more_free clauses clause pairs p trail causes head loose new_loose s one notes first second =
-    state_more clauses clause pairs p trail causes causes head head loose new_loose s one notes refl (omega arith) s.ready (free head)
-    (λ n c below is. (s.ends n c below is, free_all n)) where
-      free : (n : ℕ) → Ready trail (take n trail) p clause
-      free n = inr ((λ h. first (take_within trail n (negation p.first) h)), (λ h. second (take_within trail n (negation p.second) h)))
+    reasons_of new_causes ≡ reasons_of causes → EndsUpTo place causes new_causes → (IsWatched p → AreFree (take place trail) p) →
+    IsState (clauses ++ clause ∷ []) (pairs ++ p ∷ []) trail new_causes (min head place) new_loose
+state_more_chosen clauses clause pairs p trail causes new_causes head place loose new_loose s one notes reasons ends free =
+    state_more clauses clause pairs p trail causes new_causes head (min head place) loose new_loose s one notes reasons (omega arith)
+    (all_ready_fewer clauses pairs trail (take head trail) (take (min head place) trail) (λ x. take_less trail (min head place) head x (omega arith)) s.ready)
+    (λ differ. inr (free_before differ (min head place) (omega arith)))
+    (λ n c below is. let kept = ends n c below is in (s.ends n c (omega (arith, same)) kept.1, λ differ. inr (free_before differ n kept.0))) where
+      same : length new_causes ≡ length causes
+      same = sym (length-map new_causes (λ (k : Cause). k.reason)) ∙ ap length reasons ∙ length-map causes (λ (k : Cause). k.reason)
 
-      free_all : (n : ℕ) → Ready (take n trail) (take n trail) p clause
-      free_all n = inr ((λ h. first (take_within trail n (negation p.first) h)), (λ h. second (take_within trail n (negation p.second) h)))
-
--- with one clause more, where propagation begins again
-pub state_more_anew : (clauses : List (List Lit)) (clause : List Lit) (pairs : List Pair) (p : Pair) (trail : List Lit) (causes new_causes : List Cause) (head : ℕ) (loose new_loose : List ℕ) →
-    IsState clauses pairs trail causes head loose → (p.first ≡ p.second → IsOne clause) → NotesLoose p (length clauses) loose new_loose →
-    reasons_of new_causes ≡ reasons_of causes → All (λ c. c.ended ≡ false) new_causes → IsState (clauses ++ clause ∷ []) (pairs ++ p ∷ []) trail new_causes 0 new_loose
-state_more_anew clauses clause pairs p trail causes new_causes head loose new_loose s one notes reasons not_ended =
-    state_more clauses clause pairs p trail causes new_causes head 0 loose new_loose s one notes reasons (omega arith)
-    (λ c q k inside. ready_start trail (get_or pairs c q) (get_or clauses c k)) (ready_start trail p clause)
-    (λ n c below is. absurd (both_ways (get_or new_causes n c).ended (not_ended n c below) is))
+      free_before : IsWatched p → (n : ℕ) → n ≤ place → AreFree (take n trail) p
+      free_before differ n few = (
+        (λ h. (free differ).0 (take_less trail n place (negation p.first) few h)),
+        (λ h. (free differ).1 (take_less trail n place (negation p.second) few h)),
+      )

@@ -1,8 +1,12 @@
 -- The trail: literals that are implied at its end, what is decided, and reasons.
-use Rattle.std.proofs.Common.{◌≡◌, ℕ, ◌+◌, ◌<◌, false, Option, Some, None, List, [], ◌∷◌, ◌++◌, length, get_or, take, inl, inr, refl, ap, sym, ◌∙◌, subst, arith, length-append, append_assoc}
-use Rattle.std.specs.Prelude.{slice_get}
+use Rattle.std.proofs.Common.{◌≡◌, ℕ, ◌+◌, ◌<◌, ◌≤◌, false, Option, Some, None, List, [], ◌∷◌, ◌++◌, length, get_or, take, inl, inr, refl, ap, sym, ◌∙◌, subst, arith, length-append, append_assoc}
+use Rattle.std.specs.Prelude.{slice_get, Contains}
+use Rattle.std.proofs.lemmas.Option.{get_or_from_slice_get}
+use Rattle.cnf_core.specs.Literal.{negation}
+use Rattle.cnf_core.proofs.Literals.{negation_negation}
+use Rattle.unit_propagation.specs.Loose.{IsPickBefore}
 use Rattle.std.proofs.lemmas.Bool.{cases_lt}
-use Rattle.std.proofs.lemmas.List.{get_or_append_left, get_or_push, length-map, length_push, map-append, take-append-le, take_at, append-nil}
+use Rattle.std.proofs.lemmas.List.{get_or_append_left, get_or_push, length-map, length_push, map-append, take-append-le, take_at, append-nil, get_or-take, length-take-le}
 use Rattle.std.proofs.lemmas.List.Elements.{All-push, All-append, All-nil}
 use Rattle.cnf_core.specs.declared.formula.Lit.{Lit}
 use Rattle.unit_propagation.specs.Units.{IsUnit}
@@ -90,3 +94,15 @@ implies_then clauses a b e ac bc ec first then = record {
   decides = λ same. then.decides (first.sized same) ∙ first.decides same;
   justified = λ same h. then.justified (first.sized same) (first.justified same h);
 }
+
+-- the literal at a place falsifies its negation, and none before does
+pub pick_at : (trail clause : List Lit) (before place : ℕ) (l m : Lit) → place < before → before ≤ length trail → slice_get trail place ≡ Some l → m ≡ negation l →
+    (Contains (take place trail) l → ⊥) → Contains clause m → IsPickBefore trail clause before (record { literal = m; place = place })
+pick_at trail clause before place l m earlier inside at is fresh stands = record {
+  is_pick = (stands, omega arith, λ h. fresh (subst (Contains (take place trail)) back h));
+  earlier = earlier;
+  falsified = subst (Contains (take before trail)) (sym back)
+      (place, let size = length-take-le before trail inside in omega arith, get_or-take before trail place l earlier ∙ get_or_from_slice_get trail place l l at);
+} where
+  back : negation m ≡ l
+  back = ap negation is ∙ negation_negation l

@@ -7,9 +7,9 @@ use Rattle.unit_propagation.specs.declared.propagation.Seen.TheVariants.{Kept, M
 use Rattle.unit_propagation.specs.Assigned.{Assigned}
 use Rattle.unit_propagation.specs.Trail.{Implies}
 use Rattle.unit_propagation.specs.Watching.{Watched, list_at}
-use Rattle.unit_propagation.specs.Ready.{LooseAreTrue, KeepsReady, IsSeen, IsDone, clause_at}
+use Rattle.unit_propagation.specs.Ready.{KeepsReady, IsSeen, IsDone, clause_at}
 use Rattle.unit_propagation.proofs.TrailLemmas.{implies_then}
-use Rattle.unit_propagation.proofs.ReadyLemmas.{Visiting, visiting_kept, visiting_moved, loose_grows, keeps_then, keeps_moved}
+use Rattle.unit_propagation.proofs.ReadyLemmas.{Visiting, visiting_kept, visiting_moved, keeps_then, keeps_moved}
 
 -- what a visit that began with `start` and `a` has come to
 pub record Visited (start : Watched) (a : Assigned) (head : ℕ) (falsified : Lit) (w : Watched) (b : Assigned) (place : ℕ) : Type 0 where
@@ -19,7 +19,6 @@ pub record Visited (start : Watched) (a : Assigned) (head : ℕ) (falsified : Li
   pub implies : Implies start.clauses a.trail a.causes b.trail b.causes
   pub keeps : KeepsReady start.clauses start.pairs w.pairs a.trail
   pub visiting : Visiting start.clauses w.pairs w.lists b.trail head falsified place
-  pub loose : LooseAreTrue start.clauses w.pairs b.trail
 
 longer : (a b : Assigned) (clauses : List (List Lit)) (head : ℕ) → Implies clauses a.trail a.causes b.trail b.causes → head < length a.trail → head < length b.trail
 longer a b clauses head implies inside = let size = ap length implies.trail ∙ length-append a.trail implies.more in omega arith
@@ -43,16 +42,11 @@ visited_kept start w new a b next head l place inside at here v seen width = sub
   visiting = subst (λ (t : List Lit). Visiting start.clauses w.pairs w.lists t head (negation l) (place + 1)) (sym step.trail)
       (subst (λ (cs : List (List Lit)). Visiting cs w.pairs w.lists (b.trail ++ step.more) head (negation l) (place + 1)) v.clauses
       (visiting_kept w b.trail step.more head l place (head_inside a b start.clauses head v.implies inside) (head_stays a b start.clauses head l v.implies inside at) here
-      (subst (λ (cs : List (List Lit)). LooseAreTrue cs w.pairs (b.trail ++ step.more)) (sym v.clauses) loose)
       (subst (λ (t : List Lit). IsDone w t (negation l) (clause_at w (negation l) place)) step.trail seen.2)
       (subst (λ (cs : List (List Lit)). Visiting cs w.pairs w.lists b.trail head (negation l) place) (sym v.clauses) v.visiting)));
-  loose = subst (LooseAreTrue start.clauses w.pairs) (sym step.trail) loose;
 }) where
   step : Implies start.clauses b.trail b.causes next.trail next.causes
   step = subst (λ (cs : List (List Lit)). Implies cs b.trail b.causes next.trail next.causes) v.clauses seen.1
-
-  loose : LooseAreTrue start.clauses w.pairs (b.trail ++ step.more)
-  loose = loose_grows start.clauses w.pairs b.trail step.more v.loose
 
 pub visited_moved : (start w new : Watched) (a b next : Assigned) (head : ℕ) (l : Lit) (place : ℕ) → head < length a.trail → get_or a.trail head l ≡ l →
     place < length (list_at w.lists (negation l)) → clause_at w (negation l) place < length w.clauses → length w.pairs ≡ length w.clauses →
@@ -67,7 +61,6 @@ visited_moved start w new a b next head l place inside at here exists paired v s
   visiting = subst (λ (cs : List (List Lit)). Visiting cs new.pairs new.lists b.trail head (negation l) place) v.clauses
       (visiting_moved w new b.trail head l place (head_inside a b start.clauses head v.implies inside) (head_stays a b start.clauses head l v.implies inside at) here below seen.1
       (subst (λ (cs : List (List Lit)). Visiting cs w.pairs w.lists b.trail head (negation l) place) (sym v.clauses) v.visiting));
-  loose = moved.loose b.trail v.loose;
 }) where
   below : clause_at w (negation l) place < length w.pairs
   below = omega arith

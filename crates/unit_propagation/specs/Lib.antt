@@ -1,3 +1,5 @@
+pub mod ClauseLists
+pub mod ClauseListFields
 pub mod Units
 pub mod Assigned
 pub mod Fields

@@ -6,10 +6,10 @@ use Rattle.unit_propagation.specs.declared.assignment.Cause.{Cause}
 use Rattle.unit_propagation.specs.Trail.{IsJustified, reasons_of}
 use Rattle.unit_propagation.specs.Propagation.{Propagation}
 use Rattle.unit_propagation.specs.Ready.{AllReady, EndsReady}
-use Rattle.unit_propagation.specs.Loose.{AreLoose, ListsLoose}
+use Rattle.unit_propagation.specs.Loose.{AreLoose, ListsLoose, IsSettled}
 use Rattle.unit_propagation.specs.declared.propagator.Propagator.TheInside.{Inside}
 
--- each clause is ready for the literals before the head, and each literal that was not decided has its reason
+-- each watched clause is ready for the literals before the head, and each literal that was not decided has its reason
 pub record IsState (clauses : List (List Lit)) (pairs : List Pair) (trail : List Lit) (causes : List Cause) (head : ℕ) (loose : List ℕ) : Type 0 where
   pub head_within : head ≤ length trail
   pub sized : length causes ≡ length trail
@@ -28,7 +28,7 @@ propagation_of a = record {
   reasons = reasons_of a.assignment.causes;
 }
 
-abbrev pub IsPropagator : Inside → Type 0
-IsPropagator a =
-    (a.watched.width ≤ a.assignment.width) ×
-    IsState a.watched.clauses a.watched.pairs a.assignment.trail a.assignment.causes a.head a.loose.items
+pub record IsPropagator (a : Inside) : Type 0 where
+  pub width : a.watched.width ≤ a.assignment.width
+  pub state : IsState a.watched.clauses a.watched.pairs a.assignment.trail a.assignment.causes a.head a.loose.numbers.items
+  pub settled : IsSettled a.watched.clauses a.assignment.trail a.loose

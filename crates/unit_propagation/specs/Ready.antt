@@ -10,13 +10,23 @@ use Rattle.unit_propagation.specs.declared.assignment.Cause.{Cause}
 use Rattle.unit_propagation.specs.declared.propagation.Seen.{Seen}
 use Rattle.unit_propagation.specs.declared.propagation.Seen.TheVariants.{Kept, Moved, Falsified}
 
+-- neither of the two was falsified
+abbrev pub AreFree : List Lit → Pair → Type 0
+AreFree past p = ¬ IsFalse past p.first × ¬ IsFalse past p.second
+
 -- of the literals of the trail, those of `past` were looked at
 abbrev pub Ready : List Lit → List Lit → Pair → List Lit → Type 0
-Ready trail past p clause = Any (Contains trail) clause ⊎ (¬ IsFalse past p.first × ¬ IsFalse past p.second)
+Ready trail past p clause = Any (Contains trail) clause ⊎ AreFree past p
 
+-- two literals of the clause are watched
+abbrev pub IsWatched : Pair → Type 0
+IsWatched p = p.first ≢ p.second
+
+-- each clause of which two literals are watched
 abbrev pub AllReady : List (List Lit) → List Pair → List Lit → List Lit → Type 0
 AllReady clauses pairs trail past =
-    (c : ℕ) (p : Pair) (clause : List Lit) → c < length pairs → Ready trail past (slice_index_or pairs c p) (slice_index_or clauses c clause)
+    (c : ℕ) (p : Pair) (clause : List Lit) → c < length pairs → IsWatched (slice_index_or pairs c p) →
+    Ready trail past (slice_index_or pairs c p) (slice_index_or clauses c clause)
 
 -- of the literals of the trail those before a place were looked at
 abbrev pub ReadyTo : List (List Lit) → List Pair → List Lit → ℕ → Type 0
@@ -44,7 +54,6 @@ LooseAreTrue clauses pairs trail =
 pub record KeepsReady (clauses : List (List Lit)) (old new : List Pair) (trail : List Lit) : Type 0 where
   pub size : length new ≡ length old
   pub ready : (part : List Lit) → ((l : Lit) → Contains part l → Contains trail l) → AllReady clauses old part part → AllReady clauses new part part
-  pub loose : (part : List Lit) → LooseAreTrue clauses old part → LooseAreTrue clauses new part
   pub pairs : (c : ℕ) (p : Pair) → c < length new → (slice_index_or new c p).first ≡ (slice_index_or new c p).second →
       (slice_index_or old c p).first ≡ (slice_index_or old c p).second
 

@@ -1,5 +1,5 @@
 -- The trail: which of its literals were decided, and that the others follow by their reasons.
-use Rattle.std.specs.Prelude.{◌≡◌, ◌<◌, ◌++◌, ℕ, false, List, [], ◌∷◌, Option, Some, None, All, map, length, take, slice_get, slice_index_or}
+use Rattle.std.specs.Prelude.{◌≡◌, ◌<◌, ◌≤◌, ◌++◌, ℕ, true, false, List, [], ◌∷◌, Option, Some, None, All, map, length, take, slice_get, slice_index_or}
 use Rattle.cnf_core.specs.declared.formula.Lit.{Lit}
 use Rattle.unit_propagation.specs.Units.{IsUnit}
 use Rattle.unit_propagation.specs.declared.assignment.Cause.{Cause}
@@ -23,6 +23,11 @@ IsJustified clauses trail reasons =
 
 abbrev pub reasons_of : List Cause → List (Option ℕ)
 reasons_of causes = map (λ c. c.reason) causes
+
+-- of the places at which propagation had ended only those up to a place are still known
+abbrev pub EndsUpTo : ℕ → List Cause → List Cause → Type 0
+EndsUpTo place old new = (n : ℕ) (c : Cause) → n < length new → (slice_index_or new n c).ended ≡ true →
+    (n ≤ place) × ((slice_index_or old n c).ended ≡ true)
 
 -- literals that follow were set at the end of the trail
 pub record Implies (clauses : List (List Lit)) (old : List Lit) (old_causes : List Cause) (new : List Lit) (new_causes : List Cause) : Type 0 where

@@ -1,9 +1,9 @@
 //! The assignment: the truth of each variable, and the trail of the literals that were set, each with its cause.
 
-ghost use Rattle.std.specs.Prelude.{◌≡◌, ◌<◌, ◌≤◌, ◌++◌, ◌∷◌, [], Some, None, length, slice_get, take, false, All, OnOk, vec_capacity};
+ghost use Rattle.std.specs.Prelude.{◌≡◌, ◌<◌, ◌≤◌, ◌++◌, ◌∷◌, [], Some, None, length, slice_get, take, false, Contains, OnOk, vec_capacity};
 ghost use Rattle.unit_propagation.specs.Units.{IsOpen, IsConsistent};
 ghost use Rattle.unit_propagation.specs.Assigned.{StandsAs};
-ghost use Rattle.unit_propagation.specs.Trail.{reasons_of};
+ghost use Rattle.unit_propagation.specs.Trail.{reasons_of, EndsUpTo};
 
 use cnf_core::Lit;
 use std::alloc::{AllocError, Global};
@@ -137,6 +137,7 @@ impl Assignment {
         requires { place < length self.now.trail }
         ensures is { slice_get self.now.trail place ≡ Some result }
         ensures within { result.var < self.now.width }
+        ensures fresh { ¬ Contains (take place self.now.trail) result }
     {
         self.trail[place]
     }
@@ -180,23 +181,23 @@ impl Assignment {
         self.causes.truncate(place);
     }
 
-    /// Forgets where propagation had ended.
-    pub fn forget_ends(&mut self)
+    /// Forgets where propagation had ended behind a place.
+    pub fn forget_ends(&mut self, place: usize)
         ensures width { self.new.width ≡ self.old.width }
         ensures trail { self.new.trail ≡ self.old.trail }
         ensures reasons { reasons_of self.new.causes ≡ reasons_of self.old.causes }
-        ensures not_ended { All (λ c. c.ended ≡ false) self.new.causes }
+        ensures ends { EndsUpTo place self.old.causes self.new.causes }
     {
-        forget(&mut self.causes);
+        forget(&mut self.causes, place);
     }
 }
 
-fn forget(causes: &mut Vec<Cause>)
+fn forget(causes: &mut Vec<Cause>, place: usize)
     ensures reasons { reasons_of causes.new.items ≡ reasons_of causes.old.items }
-    ensures not_ended { All (λ c. c.ended ≡ false) causes.new.items }
+    ensures ends { EndsUpTo place causes.old.items causes.new.items }
     ensures capacity { vec_capacity causes.new ≡ vec_capacity causes.old }
 {
-    for place in 0..causes.len() {
-        causes[place].ended = false;
+    for behind in place.saturating_add(1)..causes.len() {
+        causes[behind].ended = false;
     }
 }

@@ -1,10 +1,11 @@
-//! Which two literals of a new clause to watch: two that are not false, or else any two that differ.
+//! Which two literals of a new clause to watch: two that are not false, or else the two that are falsified last.
 
-ghost use Rattle.std.specs.Prelude.{◌≡◌, ◌≢◌, ◌⊎◌, true, All, Contains, IsTrue, IfSome};
+ghost use Rattle.std.specs.Prelude.{◌≡◌, ◌≢◌, ◌≤◌, ◌↔◌, Contains, IsTrue, IfSome, length, take};
 ghost use Rattle.cnf_core.specs.declared.formula.Lit.{Lit as Literal};
 ghost use Rattle.unit_propagation.specs.Units.{IsFalse, IsWithin};
 ghost use Rattle.unit_propagation.specs.Watching.{watches};
-ghost use Rattle.unit_propagation.specs.Loose.{IsOne, IsFreePair, IsAnyPair, IsDiffering};
+ghost use Rattle.unit_propagation.specs.Loose.{IsOne, IsFreePair, IsAnyPair, IsDiffering, IsPick, IsPickBefore};
+ghost use Rattle.unit_propagation.specs.Ready.{AreFree, IsWatched};
 
 use crate::assignment::Assignment;
 use crate::pair::Pair;
@@ -17,29 +18,94 @@ const NO_LITERAL: Lit = Lit {
     positive: false,
 };
 
-/// The literals to watch, and whether both are not false.
+/// The literals to watch, and a place of the trail: before it neither is falsified.
 #[derive(Clone, Copy, Debug)]
 pub struct Choice {
     pub pair: Pair,
-    pub free: bool,
+    pub place: usize,
+}
+
+/// A literal, and a place of the trail: before it the literal is not falsified.
+#[derive(Clone, Copy, Debug)]
+pub struct LatePick {
+    pub literal: Lit,
+    pub place: usize,
 }
 
 impl Choice {
     pub fn of(clause: &[Lit], assignment: &Assignment) -> Choice
         requires { IsWithin assignment.now.width clause.now }
         ensures stands { (l : Literal) → IsTrue (watches result.pair l) → Contains clause.now l }
-        ensures first { result.free ≡ true → ¬ IsFalse assignment.now.trail result.pair.first }
-        ensures second { result.free ≡ true → ¬ IsFalse assignment.now.trail result.pair.second }
+        ensures free { IsWatched result.pair
+            → AreFree (take result.place assignment.now.trail) result.pair }
         ensures one { result.pair.first ≡ result.pair.second → IsOne clause.now }
     {
+        let place = assignment.count();
         if let Some(pair) = free_pair(clause, assignment) {
-            return Choice { pair, free: true };
+            return Choice { pair, place };
         }
-        Choice {
-            pair: any_pair(clause),
-            free: false,
+        let pair = any_pair(clause);
+        if !pair.is_watched() {
+            return Choice { pair, place };
+        }
+        match late_pair(clause, assignment) {
+            Some(choice) => choice,
+            None => Choice { pair, place: 0 },
         }
     }
+}
+
+/// The two literals that are falsified last.
+fn late_pair(clause: &[Lit], assignment: &Assignment) -> Option<Choice>
+    requires { IsWithin assignment.now.width clause.now }
+    ensures stands { IfSome result (λ c. (l : Literal)
+        → IsTrue (watches c.pair l) → Contains clause.now l) }
+    ensures watched { IfSome result (λ c. IsWatched c.pair) }
+    ensures free { IfSome result (λ c. AreFree (take c.place assignment.now.trail) c.pair) }
+{
+    let first = latest(clause, assignment)?;
+    let second = latest_before(clause, assignment, first.place)?;
+    Some(Choice {
+        pair: Pair {
+            first: first.literal,
+            second: second.literal,
+        },
+        place: second.place,
+    })
+}
+
+/// A literal that is not falsified, or the one that is falsified last.
+fn latest(clause: &[Lit], assignment: &Assignment) -> Option<LatePick>
+    requires { IsWithin assignment.now.width clause.now }
+    ensures { IfSome result (λ pick. IsPick assignment.now.trail clause.now pick) }
+{
+    let place = assignment.count();
+    match find_free(clause, assignment) {
+        Some(literal) => Some(LatePick { literal, place }),
+        None => latest_before(clause, assignment, place),
+    }
+}
+
+/// The last literal that is falsified before a place.
+fn latest_before(clause: &[Lit], assignment: &Assignment, before: usize) -> Option<LatePick>
+    requires { before ≤ length assignment.now.trail }
+    ensures { IfSome result (λ pick. IsPickBefore assignment.now.trail clause.now before pick) }
+{
+    let mut place = before;
+    while place > 0 {
+        place -= 1;
+        let literal = !assignment.nth(place);
+        if contains(clause, literal) {
+            return Some(LatePick { literal, place });
+        }
+    }
+    None
+}
+
+fn contains(clause: &[Lit], l: Lit) -> bool
+    ensures { IsTrue result ↔ Contains clause.now l }
+{
+    clause.iter().any(|k| *k == l)
 }
 
 /// Two literals that differ and are not false.

@@ -4,6 +4,7 @@
 
 mod assignment;
 mod choice;
+mod clause_list;
 mod clause_state;
 pub mod laws;
 mod loose;

@@ -4,7 +4,7 @@
 ghost use Rattle.std.specs.Prelude.{◌≡◌, ◌≢◌, ◌<◌, ◌≤◌, ◌↔◌, All, IsTrue, IfSome, IfNone, length};
 ghost use Rattle.unit_propagation.specs.Units.{IsFalse, IsFree, IsWithin, IsConsistent};
 ghost use Rattle.unit_propagation.specs.Watching.{list_at};
-ghost use Rattle.unit_propagation.specs.Ready.{LooseAreTrue, KeepsAll, Implied, IsSeen, IsWhole, ReadyTo, ReadyPast};
+ghost use Rattle.unit_propagation.specs.Ready.{KeepsAll, Implied, IsSeen, IsWhole, ReadyTo, ReadyPast};
 ghost use Rattle.unit_propagation.specs.Propagated.{IsFalseClause};
 
 use crate::assignment::{Assignment, Cause, Truth};
@@ -32,7 +32,6 @@ pub fn run(
     requires width { watched.old.width ≤ assignment.old.width }
     requires head { head.old ≤ length assignment.old.trail }
     requires ready { ReadyTo watched.old.clauses watched.old.pairs assignment.old.trail head.old }
-    requires loose { LooseAreTrue watched.old.clauses watched.old.pairs assignment.old.trail }
     requires indexed { IsWhole watched.old }
     ensures width { watched.new.width ≡ watched.old.width }
     ensures assignment_width { assignment.new.width ≡ assignment.old.width }
@@ -43,7 +42,6 @@ pub fn run(
     ensures head { head.new ≤ length assignment.new.trail }
     ensures ended { IfNone result (head.new ≡ length assignment.new.trail) }
     ensures falsified { IfSome result (λ c. IsFalseClause watched.old.clauses assignment.new.trail c) }
-    ensures loose { LooseAreTrue watched.old.clauses watched.new.pairs assignment.new.trail }
     ensures indexed { IfNone result (IsWhole watched.new) }
     ensures consistent { IfNone result (IsConsistent assignment.new.trail) }
 {
@@ -62,7 +60,6 @@ fn visit(watched: &mut WatchedClauses, assignment: &mut Assignment, head: usize)
     requires width { watched.old.width ≤ assignment.old.width }
     requires head { head < length assignment.old.trail }
     requires ready { ReadyTo watched.old.clauses watched.old.pairs assignment.old.trail head }
-    requires loose { LooseAreTrue watched.old.clauses watched.old.pairs assignment.old.trail }
     ensures width { watched.new.width ≡ watched.old.width }
     ensures assignment_width { assignment.new.width ≡ assignment.old.width }
     ensures clauses { watched.new.clauses ≡ watched.old.clauses }
@@ -71,7 +68,6 @@ fn visit(watched: &mut WatchedClauses, assignment: &mut Assignment, head: usize)
     ensures ready { ReadyTo watched.old.clauses watched.new.pairs assignment.new.trail head }
     ensures next { IfNone result (ReadyPast watched.old watched.new assignment.new.trail head) }
     ensures falsified { IfSome result (λ c. IsFalseClause watched.old.clauses assignment.new.trail c) }
-    ensures loose { LooseAreTrue watched.old.clauses watched.new.pairs assignment.new.trail }
     ensures indexed { IfNone result (IsWhole watched.new) }
 {
     let falsified = !assignment.nth(head);
@@ -112,7 +108,7 @@ fn step(
     if let Truth::True = truth {
         return Seen::Kept;
     }
-    if let Some(to) = find_other(watched.clauses()[number].as_slice(), other, assignment) {
+    if let Some(to) = find_other(watched.literals(number), other, assignment) {
         watched.rewatch(number, falsified, place, other, to);
         return Seen::Moved;
     }

@@ -1,6 +1,6 @@
 //! The propagator: clauses, the literals that were decided, and what follows from them.
 
-ghost use Rattle.std.specs.Prelude.{◌≡◌, ◌<◌, ◌≤◌, ◌^◌, ◌++◌, ◌∷◌, ℕ, [], Some, All, IfSome, IfNone, OnOk, OnErr, length, slice_get};
+ghost use Rattle.std.specs.Prelude.{◌≡◌, ◌<◌, ◌≤◌, ◌^◌, ◌++◌, ◌∷◌, ℕ, [], Some, All, IfSome, IfNone, OnOk, OnErr, length, slice_get, slice_index_or};
 ghost use Rattle.cnf_core.specs.Propagation.{Conflicts};
 ghost use Rattle.unit_propagation.specs.Trail.{IsJustified};
 ghost use Rattle.unit_propagation.specs.Units.{IsOpen, IsWithin, IsConsistent};
@@ -11,7 +11,7 @@ ghost use Rattle.unit_propagation.specs.Propagation.{FollowsAs, IsFull, IsSatisf
 
 use crate::assignment::{Assignment, Cause, Truth};
 use crate::choice::Choice;
-use crate::loose::{note_loose, set_loose};
+use crate::loose::{LooseClauses, note_loose, set_loose};
 use crate::propagation::run;
 use crate::watched_clauses::WatchedClauses;
 use cnf_core::{Clause, Lit};
@@ -24,7 +24,7 @@ use std::marker::Model;
 pub struct Propagator {
     watched: WatchedClauses,
     assignment: Assignment,
-    loose: Vec<usize>,
+    loose: LooseClauses,
     head: usize,
 }
 
@@ -50,7 +50,7 @@ impl Propagator {
         Propagator {
             watched: WatchedClauses::new(alloc),
             assignment: Assignment::new(alloc),
-            loose: Vec::new(alloc),
+            loose: LooseClauses::new(alloc),
             head: 0,
         }
     }
@@ -69,22 +69,20 @@ impl Propagator {
         self.watched.grow(width)
     }
 
-    /// Adds the clause at the end, whatever is set. `propagate` then goes on from it too.
+    /// Adds the clause at the end, whatever is set. `propagate` then goes on from it too, and begins again no earlier than
+    /// where the clause became a unit or false.
     pub fn add_clause(&mut self, clause: Clause) -> Result<(), AllocError>
         requires { IsWithin self.old.width clause }
         ensures added { OnOk result (self.new ≡ with_clause self.old clause) }
         ensures kept { OnErr result (self.new ≡ self.old) }
     {
         let choice = Choice::of(clause.as_slice(), &self.assignment);
-        self.loose.reserve(1)?;
-        let number = self.watched.clauses().len();
-        self.watched.add(clause, choice.pair)?;
-        note_loose(&mut self.loose, choice.pair, number);
-        if choice.free {
-            return Ok(());
-        }
-        self.assignment.forget_ends();
-        self.head = 0;
+        self.loose.numbers.reserve(1)?;
+        let number = self.watched.clause_count();
+        self.watched.add(clause.as_slice(), choice.pair)?;
+        note_loose(&mut self.loose.numbers, choice.pair, number);
+        self.assignment.forget_ends(choice.place);
+        self.head = self.head.min(choice.place);
         Ok(())
     }
 
@@ -114,11 +112,9 @@ impl Propagator {
         ensures satisfied { IfNone result (IsSatisfiedIfTotal self.new) }
         ensures none { IfNone result (¬ Conflicts self.old.clauses (decisions self.old)) }
     {
-        if let Some(clause) = set_loose(
-            self.watched.clauses(),
-            &mut self.assignment,
-            self.loose.as_slice(),
-        ) {
+        // It tells that the lists are whole.
+        let _count = self.watched.clause_count();
+        if let Some(clause) = set_loose(&self.watched, &mut self.assignment, &mut self.loose) {
             return Some(clause);
         }
         run(&mut self.watched, &mut self.assignment, &mut self.head)
@@ -129,6 +125,7 @@ impl Propagator {
         ensures { self.new ≡ undone self.old place }
     {
         if place < self.assignment.count() {
+            self.loose.undo_to(place);
             self.head = last_end(&self.assignment, place);
             self.assignment.undo_to(place);
         }
@@ -141,12 +138,20 @@ impl Propagator {
         self.watched.width()
     }
 
-    /// The clauses, in the order in which they were added.
-    pub fn clauses(&self) -> &[Clause]
-        ensures are { result.now ≡ self.now.clauses }
-        ensures within { All (IsWithin self.now.width) result.now }
+    /// How many clauses were added.
+    pub fn clause_count(&self) -> usize
+        ensures { result ≡ length self.now.clauses }
     {
-        self.watched.clauses()
+        self.watched.clause_count()
+    }
+
+    /// The literals of the clause of that number, from 0 in the order in which the clauses were added.
+    pub fn literals(&self, clause: usize) -> &[Lit]
+        requires { clause < length self.now.clauses }
+        ensures are { result.now ≡ slice_index_or self.now.clauses clause [] }
+        ensures within { IsWithin self.now.width result.now }
+    {
+        self.watched.literals(clause)
     }
 
     /// How the literal stands.

@@ -17,7 +17,7 @@ pub fn code(l: Lit) -> usize
 }
 
 /// Makes empty lists up to a number.
-pub fn add_lists(alloc: Global, lists: &mut Vec<Vec<usize>>, count: usize) -> Result<(), AllocError>
+pub fn add_lists(alloc: Global, lists: &mut Vec<Vec<u32>>, count: usize) -> Result<(), AllocError>
     ensures size { OnOk result (count ≤ length lists.new.items) }
     ensures longer { length lists.old.items ≤ length lists.new.items }
     ensures same { SameLists (items_of lists.old.items) (items_of lists.new.items) }
@@ -43,7 +43,7 @@ pub fn add_zeros(held: &mut Vec<usize>, count: usize) -> Result<(), AllocError>
 
 /// Makes room for one more clause in the list of each of its literals.
 pub fn make_room(
-    lists: &mut Vec<Vec<usize>>,
+    lists: &mut Vec<Vec<u32>>,
     held: &mut Vec<usize>,
     clause: &[Lit],
 ) -> Result<(), AllocError>
@@ -63,7 +63,7 @@ pub fn make_room(
 }
 
 fn make_room_at(
-    lists: &mut Vec<Vec<usize>>,
+    lists: &mut Vec<Vec<u32>>,
     held: &mut Vec<usize>,
     at: usize,
 ) -> Result<(), AllocError>
@@ -86,7 +86,7 @@ fn make_room_at(
 }
 
 /// Puts the clause at the end of the lists of its watched literals, which have room.
-pub fn list_clause(lists: &mut Vec<Vec<usize>>, pair: Pair, number: usize)
+pub fn list_clause(lists: &mut Vec<Vec<u32>>, pair: Pair, number: u32)
     requires { ListsRoom pair (items_of lists.old.items) (rooms_of lists.old.items) }
     ensures size { length lists.new.items ≡ length lists.old.items }
     ensures listed { ListsClause pair number (items_of lists.old.items) (items_of lists.new.items) }
@@ -99,7 +99,7 @@ pub fn list_clause(lists: &mut Vec<Vec<usize>>, pair: Pair, number: usize)
 }
 
 /// Puts the clause at the end of the literal's list, which has room.
-pub fn append(lists: &mut Vec<Vec<usize>>, l: Lit, number: usize)
+pub fn append(lists: &mut Vec<Vec<u32>>, l: Lit, number: u32)
     requires inside { code_of l < length lists.old.items }
     requires room { Fits (items_of lists.old.items) (rooms_of lists.old.items) l }
     ensures size { length lists.new.items ≡ length lists.old.items }

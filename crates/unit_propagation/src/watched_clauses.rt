@@ -1,13 +1,14 @@
 //! Clauses with two watched literals each, and for each literal the list of the clauses that watch it.
 
-ghost use Rattle.std.specs.Prelude.{◌≡◌, ◌<◌, ◌≤◌, ◌^◌, ◌++◌, ◌∷◌, [], ℕ, All, Some, Contains, IsTrue, OnOk, OnErr, length, slice_get, slice_set, swap_remove};
+ghost use Rattle.std.specs.Prelude.{◌≡◌, ◌<◌, ◌≤◌, ◌^◌, ◌++◌, ◌∷◌, [], ℕ, Some, Contains, IsTrue, OnOk, OnErr, length, slice_get, slice_index_or, slice_set, swap_remove};
 ghost use Rattle.unit_propagation.specs.Units.{IsWithin};
 ghost use Rattle.cnf_core.specs.declared.formula.Lit.{Lit as Literal};
 ghost use Rattle.unit_propagation.specs.Watching.{watches, list_at, pair_of, IsIndexed, LeavesList, MovesWatch};
 
+use crate::clause_list::{ClauseList, short};
 use crate::pair::Pair;
 use crate::watch_lists::{add_lists, add_zeros, append, code, list_clause, make_room};
-use cnf_core::{Clause, Lit};
+use cnf_core::Lit;
 use std::alloc::{AllocError, Global};
 use std::marker::Model;
 
@@ -16,9 +17,9 @@ use std::marker::Model;
 pub struct WatchedClauses {
     alloc: Global,
     width: usize,
-    clauses: Vec<Clause>,
+    clauses: ClauseList,
     pairs: Vec<Pair>,
-    lists: Vec<Vec<usize>>,
+    lists: Vec<Vec<u32>>,
     held: Vec<usize>,
 }
 
@@ -44,7 +45,7 @@ impl WatchedClauses {
         WatchedClauses {
             alloc,
             width: 0,
-            clauses: Vec::new(alloc),
+            clauses: ClauseList::new(alloc),
             pairs: Vec::new(alloc),
             lists: Vec::new(alloc),
             held: Vec::new(alloc),
@@ -70,20 +71,22 @@ impl WatchedClauses {
     }
 
     /// Adds the clause with its watched literals at the end.
-    pub fn add(&mut self, clause: Clause, pair: Pair) -> Result<(), AllocError>
-        requires within { IsWithin self.old.width clause }
-        requires stands { (l : Literal) → IsTrue (watches pair l) → Contains clause l }
+    pub fn add(&mut self, clause: &[Lit], pair: Pair) -> Result<(), AllocError>
+        requires within { IsWithin self.old.width clause.now }
+        requires stands { (l : Literal) → IsTrue (watches pair l) → Contains clause.now l }
         ensures width { self.new.width ≡ self.old.width }
-        ensures clauses { OnOk result (self.new.clauses ≡ self.old.clauses ++ clause ∷ []) }
+        ensures clauses { OnOk result (self.new.clauses ≡ self.old.clauses ++ clause.now ∷ []) }
         ensures pairs { OnOk result (self.new.pairs ≡ self.old.pairs ++ pair ∷ []) }
         ensures kept { OnErr result (self.new.clauses ≡ self.old.clauses) }
         ensures pairs_kept { OnErr result (self.new.pairs ≡ self.old.pairs) }
     {
-        make_room(&mut self.lists, &mut self.held, clause.as_slice())?;
-        self.clauses.reserve(1)?;
+        let Some(number) = short(self.clauses.len()) else {
+            return Err(AllocError);
+        };
+        make_room(&mut self.lists, &mut self.held, clause)?;
         self.pairs.reserve(1)?;
-        list_clause(&mut self.lists, pair, self.clauses.len());
-        self.clauses.push_reserved(clause);
+        self.clauses.push(clause)?;
+        list_clause(&mut self.lists, pair, number);
         self.pairs.push_reserved(pair);
         Ok(())
     }
@@ -96,12 +99,21 @@ impl WatchedClauses {
         self.width
     }
 
-    pub fn clauses(&self) -> &[Clause]
-        ensures are { result.now ≡ self.now.clauses }
-        ensures within { All (IsWithin self.now.width) result.now }
+    /// How many clauses there are.
+    pub fn clause_count(&self) -> usize
+        ensures is { result ≡ length self.now.clauses }
         ensures indexed { IsIndexed self.now.width self.now.clauses self.now.pairs self.now.lists }
     {
-        self.clauses.as_slice()
+        self.clauses.len()
+    }
+
+    /// The literals of the clause.
+    pub fn literals(&self, clause: usize) -> &[Lit]
+        requires { clause < length self.now.clauses }
+        ensures are { result.now ≡ slice_index_or self.now.clauses clause [] }
+        ensures within { IsWithin self.now.width result.now }
+    {
+        self.clauses.literals(clause)
     }
 
     /// The watched literals of the clause.
@@ -130,7 +142,7 @@ impl WatchedClauses {
         ensures exists { result < length self.now.clauses }
         ensures paired { length self.now.pairs ≡ length self.now.clauses }
     {
-        self.lists[code(l)][place]
+        self.lists[code(l)][place] as usize
     }
 
     /// Watches the clause, which is at that place of a watched literal's list, at another literal.
@@ -144,11 +156,11 @@ impl WatchedClauses {
         ensures list { LeavesList self.old.lists self.new.lists from place clause }
     {
         let list = &mut self.lists[code(from)];
-        list.swap_remove(place);
+        let number = list.swap_remove(place);
         self.pairs[clause] = Pair {
             first: other,
             second: to,
         };
-        append(&mut self.lists, to, clause);
+        append(&mut self.lists, to, number);
     }
 }

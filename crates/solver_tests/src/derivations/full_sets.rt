@@ -166,7 +166,7 @@ impl Trial {
 }
 
 /// The full clauses whose bit the mask has.
-fn full_clauses(alloc: Global, mask: u32) -> Result<Vec<&'static [i32]>, AllocError> {
+pub fn full_clauses(alloc: Global, mask: u32) -> Result<Vec<&'static [i32]>, AllocError> {
     let mut clauses = Vec::new(alloc);
     for (clause, bit) in FULL.iter().zip([1u32, 2, 4, 8, 16, 32, 64, 128]) {
         if mask & bit != 0 {

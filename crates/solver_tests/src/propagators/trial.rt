@@ -85,11 +85,16 @@ impl Trial {
 
     /// Whether the propagator has the clauses that were added.
     pub fn has_its_clauses(&self) -> bool {
-        let clauses = self.propagator.clauses();
-        clauses.len() == self.clauses.len()
-            && clauses.iter().zip(self.clauses.iter()).all(|(clause, set)| Set::of_literals(
-                clause.as_slice(),
-            ) == *set)
+        let count = self.propagator.clause_count();
+        if count != self.clauses.len() {
+            return false;
+        }
+        for number in 0..count {
+            if Set::of_literals(self.propagator.literals(number)) != self.clauses[number] {
+                return false;
+            }
+        }
+        true
     }
 
     /// Whether each literal stands as the trail says.

@@ -11,14 +11,14 @@ returns-in-Other-clause-answer c =
     let i = c.loop-hint.hint-index in
     let trail = c.loop-hint.assignment.trail in
     let here : drop i hints ≡ get_or hints i 0 ∷ drop (i + 1) hints = rw add-one (drop-cons hints i 0 c.loop-hint-test.true) in
-    let none : HintsConflict c.args.clauses.now trail (drop i hints) → ⊥ =
-    λ all. hint-other c.args.clauses.now trail (get_or hints i 0) (drop (i + 1) hints) c.in-Other.ensures
-    (subst (HintsConflict c.args.clauses.now trail) here all) in
+    let none : HintsConflict c.args.root.now.clauses trail (drop i hints) → ⊥ =
+    λ all. hint-other c.args.root.now.clauses trail (get_or hints i 0) (drop (i + 1) hints) c.in-Other.ensures
+    (subst (HintsConflict c.args.root.now.clauses trail) here all) in
     ((λ yes. cc), (λ all. absurd (none (c.loop-hint.invariant.back all))))
 
 pub loop-hint-preserved : goal.loop-hint-preserved
 loop-hint-preserved c =
-    let clauses = c.args.clauses.now in
+    let clauses = c.args.root.now.clauses in
     let hints = c.args.hints.now in
     let i = c.loop-hint.hint-index in
     let trail = c.loop-hint.assignment.trail in

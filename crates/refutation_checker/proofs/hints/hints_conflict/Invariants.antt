@@ -6,6 +6,6 @@ use Rattle.refutation_checker.proofs.hints.hints_conflict.Given as goal
 abbrev pub invariant-loop-hint : goal.invariant-loop-hint
 invariant-loop-hint l = record {
   width : l.assignment.width ≡ l.initial.assignment.width;
-  onward : HintsConflict l.clauses l.assignment.trail (drop l.hint-index l.hints) → HintsConflict l.clauses l.initial.assignment.trail l.hints;
-  back : HintsConflict l.clauses l.initial.assignment.trail l.hints → HintsConflict l.clauses l.assignment.trail (drop l.hint-index l.hints);
+  onward : HintsConflict l.root.clauses l.assignment.trail (drop l.hint-index l.hints) → HintsConflict l.root.clauses l.initial.assignment.trail l.hints;
+  back : HintsConflict l.root.clauses l.initial.assignment.trail l.hints → HintsConflict l.root.clauses l.assignment.trail (drop l.hint-index l.hints);
 }

@@ -1,7 +1,6 @@
 -- The clause has one literal, however often it stands there.
-use Rattle.std.proofs.Common.{◌≡◌, ◌<◌, ℕ, ◌∷◌, [], ◌++◌, List, Some, length, get_or, sym, ◌∙◌, subst}
+use Rattle.std.proofs.Common.{◌≡◌, ◌<◌, ℕ, ◌∷◌, [], ◌++◌, List, Some, length, get_or, sym, subst}
 use Rattle.std.specs.Prelude.{Any, Contains, slice_get}
-use Rattle.std.proofs.lemmas.List.{get_or_default}
 use Rattle.std.proofs.lemmas.List.Elements.{Contains-get_or, Contains-push}
 use Rattle.std.proofs.lemmas.Option.{slice_get-get_or, slice_get_within, get_or_from_slice_get}
 use Rattle.cnf_core.specs.declared.formula.Lit.{Lit}
@@ -12,41 +11,40 @@ use Rattle.unit_propagation.proofs.TrailLemmas.{implies_none, implies_one}
 use Rattle.unit_propagation.proofs.loose.is_falsified.Goals as goal
 
 -- the first literal stands in the clause
-first_stands : (clauses : List (List Lit)) (n : ℕ) (seen item : List Lit) (l : Lit) → n < length clauses → seen ≡ item → item ≡ get_or clauses n item → Some l ≡ slice_get seen 0 →
+first_stands : (clauses : List (List Lit)) (n : ℕ) (seen : List Lit) (l : Lit) → n < length clauses → seen ≡ get_or clauses n [] → Some l ≡ slice_get seen 0 →
     Contains (get_or clauses n []) l
-first_stands clauses n seen item l inside same at first =
-    let whole : seen ≡ get_or clauses n [] = same ∙ at ∙ get_or_default clauses n item [] inside in
+first_stands clauses n seen l inside whole first =
     subst (λ (k : List Lit). Contains k l) whole (0, slice_get_within seen 0 l (sym first), get_or_from_slice_get seen 0 l l (sym first))
 
 true_in : (trail clause : List Lit) (l : Lit) → Contains clause l → Contains trail l → Any (Contains trail) clause
 true_in trail clause l (k, inside, at) is = (k, l, inside, at, is)
 
 pub returns-in-True-clause-implies : goal.returns-in-True-clause-implies
-returns-in-True-clause-implies c = implies_none c.args.clauses.now c.args.assignment.now.trail c.args.assignment.now.causes
+returns-in-True-clause-implies c = implies_none c.args.watched.now.clauses c.args.assignment.now.trail c.args.assignment.now.causes
 
 pub returns-in-False-clause-implies : goal.returns-in-False-clause-implies
-returns-in-False-clause-implies c = implies_none c.args.clauses.now c.args.assignment.now.trail c.args.assignment.now.causes
+returns-in-False-clause-implies c = implies_none c.args.watched.now.clauses c.args.assignment.now.trail c.args.assignment.now.causes
 
 pub returns-in-True-clause-is_true : goal.returns-in-True-clause-is_true
 returns-in-True-clause-is_true c =
-    let stands = first_stands c.args.clauses.now c.args.number c.as_slice.result.now c.index-clauses-number.result c.in-Some.l.now c.requires.loose.0 c.as_slice.ensures c.index-clauses-number.is c.in-Some.ensures.value in
-    true_in c.args.assignment.now.trail (get_or c.args.clauses.now c.args.number []) c.in-Some.l.now stands c.in-True.ensures.0
+    let stands = first_stands c.args.watched.now.clauses c.args.number c.literals.result.now c.in-Some.l.now c.requires.loose.0 c.literals.ensures.are c.in-Some.ensures.value in
+    true_in c.args.assignment.now.trail (get_or c.args.watched.now.clauses c.args.number []) c.in-Some.l.now stands c.in-True.ensures.0
 
 pub returns-in-False-clause-falsified : goal.returns-in-False-clause-falsified
 returns-in-False-clause-falsified c =
-    let clause = get_or c.args.clauses.now c.args.number [] in
-    let stands = first_stands c.args.clauses.now c.args.number c.as_slice.result.now c.index-clauses-number.result c.in-Some.l.now c.requires.loose.0 c.as_slice.ensures c.index-clauses-number.is c.in-Some.ensures.value in
+    let clause = get_or c.args.watched.now.clauses c.args.number [] in
+    let stands = first_stands c.args.watched.now.clauses c.args.number c.literals.result.now c.in-Some.l.now c.requires.loose.0 c.literals.ensures.are c.in-Some.ensures.value in
     λ k d inside. subst (IsFalse c.args.assignment.now.trail) (c.requires.loose.1 [] c.in-Some.l.now (get_or clause k d) stands (Contains-get_or clause k d inside)) c.in-False.ensures.0
 
 pub returns-in-Open-clause-implies : goal.returns-in-Open-clause-implies
 returns-in-Open-clause-implies c =
-    let clauses = c.args.clauses.now in
+    let clauses = c.args.watched.now.clauses in
     let trail = c.args.assignment.now.trail in
     let causes = c.args.assignment.now.causes in
     let n = c.args.number in
     let l = c.in-Some.l.now in
     let clause = get_or clauses n [] in
-    let stands = first_stands clauses n c.as_slice.result.now c.index-clauses-number.result l c.requires.loose.0 c.as_slice.ensures c.index-clauses-number.is c.in-Some.ensures.value in
+    let stands = first_stands clauses n c.literals.result.now l c.requires.loose.0 c.literals.ensures.are c.in-Some.ensures.value in
     let unit : IsUnit trail clause l = record {
       stands = stands;
       is_open = c.in-Open.ensures;
@@ -59,6 +57,9 @@ returns-in-Open-clause-implies c =
 pub returns-in-Open-clause-is_true : goal.returns-in-Open-clause-is_true
 returns-in-Open-clause-is_true c =
     let l = c.in-Some.l.now in
-    let stands = first_stands c.args.clauses.now c.args.number c.as_slice.result.now c.index-clauses-number.result l c.requires.loose.0 c.as_slice.ensures c.index-clauses-number.is c.in-Some.ensures.value in
-    true_in c.set.new.self.trail (get_or c.args.clauses.now c.args.number []) l stands
+    let stands = first_stands c.args.watched.now.clauses c.args.number c.literals.result.now l c.requires.loose.0 c.literals.ensures.are c.in-Some.ensures.value in
+    true_in c.set.new.self.trail (get_or c.args.watched.now.clauses c.args.number []) l stands
     (subst (λ (t : List Lit). Contains t l) (sym c.set.ensures.trail) (Contains-push c.args.assignment.now.trail l))
+
+pub returns-in_default-clause-implies : goal.returns-in_default-clause-implies
+returns-in_default-clause-implies c = implies_none c.args.watched.now.clauses c.args.assignment.now.trail c.args.assignment.now.causes

@@ -2,10 +2,10 @@
 use Rattle.std.proofs.Common.{◌+◌, List, length, take, refl, ap, sym, ◌∙◌, subst, arith, length-append}
 use Rattle.cnf_core.specs.declared.formula.Lit.{Lit}
 use Rattle.unit_propagation.specs.Trail.{Implies}
-use Rattle.unit_propagation.specs.Ready.{AllReady, LooseAreTrue, KeepsReady}
+use Rattle.unit_propagation.specs.Ready.{AllReady, KeepsReady}
 use Rattle.unit_propagation.specs.Propagated.{IsFalseClause}
 use Rattle.unit_propagation.proofs.TrailLemmas.{implies_none, implies_then}
-use Rattle.unit_propagation.proofs.ReadyLemmas.{keeps_none, keeps_then, loose_grows}
+use Rattle.unit_propagation.proofs.ReadyLemmas.{keeps_none, keeps_then}
 use Rattle.unit_propagation.proofs.propagation.run.Goals as goal
 
 pub loop-head-init : goal.loop-head-init
@@ -16,7 +16,6 @@ loop-head-init c = record {
   implies = implies_none c.args.watched.now.clauses c.args.assignment.now.trail c.args.assignment.now.causes;
   keeps = keeps_none c.args.watched.now.clauses c.args.watched.now.pairs c.args.assignment.now.trail;
   ready = c.requires.ready;
-  loose = c.requires.loose;
   head = c.requires.head;
   indexed = c.requires.indexed;
 }
@@ -24,10 +23,6 @@ loop-head-init c = record {
 pub visit-requires-clause-ready : goal.visit-requires-clause-ready
 visit-requires-clause-ready c =
     subst (λ (cs : List (List Lit)). AllReady cs c.loop-head.watched.pairs c.loop-head.assignment.trail (take c.loop-head.head c.loop-head.assignment.trail)) (sym c.loop-head.invariant.clauses) c.loop-head.invariant.ready
-
-pub visit-requires-clause-loose : goal.visit-requires-clause-loose
-visit-requires-clause-loose c =
-    subst (λ (cs : List (List Lit)). LooseAreTrue cs c.loop-head.watched.pairs c.loop-head.assignment.trail) (sym c.loop-head.invariant.clauses) c.loop-head.invariant.loose
 
 pub returns-in-Some-clause-implies : goal.returns-in-Some-clause-implies
 returns-in-Some-clause-implies c =
@@ -74,12 +69,6 @@ loop-head-preserved c =
       keeps = keeps_then start c.args.watched.now.pairs c.loop-head.watched.pairs c.visit.new.watched.pairs a.trail inv.implies.more inv.keeps
           (subst (KeepsReady start c.loop-head.watched.pairs c.visit.new.watched.pairs) inv.implies.trail there);
       ready = subst (λ (cs : List (List Lit)). AllReady cs c.visit.new.watched.pairs e.trail (take (c.loop-head.head + 1) e.trail)) inv.clauses after.next;
-      loose = subst (LooseAreTrue start c.visit.new.watched.pairs) (sym step.trail)
-          (loose_grows start c.visit.new.watched.pairs b.trail step.more (there.loose b.trail inv.loose));
       head = omega (arith, size, c.loop-head-test.true, c.count.ensures.count);
       indexed = after.indexed;
     }
-
-pub returns-in-Some-clause-loose : goal.returns-in-Some-clause-loose
-returns-in-Some-clause-loose c =
-    subst (λ (cs : List (List Lit)). LooseAreTrue cs c.visit.new.watched.pairs c.visit.new.assignment.trail) c.loop-head.invariant.clauses c.in-Some.ensures.loose

@@ -2,7 +2,7 @@
 use Rattle.std.proofs.Common.{◌≡◌, ◌≤◌, ◌-◌, length, take}
 use Rattle.unit_propagation.specs.Trail.{Implies}
 use Rattle.unit_propagation.specs.Watching.{IsIndexed}
-use Rattle.unit_propagation.specs.Ready.{AllReady, LooseAreTrue, KeepsReady}
+use Rattle.unit_propagation.specs.Ready.{AllReady, KeepsReady}
 use Rattle.unit_propagation.proofs.propagation.run.Given as goal
 
 abbrev pub invariant-loop-head : goal.invariant-loop-head
@@ -13,7 +13,6 @@ invariant-loop-head l = record {
   implies : Implies l.initial.watched.clauses l.initial.assignment.trail l.initial.assignment.causes l.assignment.trail l.assignment.causes;
   keeps : KeepsReady l.initial.watched.clauses l.initial.watched.pairs l.watched.pairs l.initial.assignment.trail;
   ready : AllReady l.initial.watched.clauses l.watched.pairs l.assignment.trail (take l.head l.assignment.trail);
-  loose : LooseAreTrue l.initial.watched.clauses l.watched.pairs l.assignment.trail;
   head : l.head ≤ length l.assignment.trail;
   indexed : IsIndexed l.watched.width l.watched.clauses l.watched.pairs l.watched.lists;
 }

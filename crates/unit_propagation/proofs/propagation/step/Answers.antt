@@ -73,8 +73,8 @@ returns-in-True-clause-seen c =
     )
 
 -- the clause that is looked at is the one of the number
-clause_is : (cs clauses : List (List Lit)) (n : ℕ) (seen item clause : List Lit) → cs ≡ clauses → n < length clauses → seen ≡ item → item ≡ get_or cs n item → seen ≡ get_or clauses n clause
-clause_is cs clauses n seen item clause are inside same at = same ∙ at ∙ ap (λ (xs : List (List Lit)). get_or xs n item) are ∙ get_or_default clauses n item clause inside
+clause_is : (clauses : List (List Lit)) (n : ℕ) (seen clause : List Lit) → n < length clauses → seen ≡ get_or clauses n [] → seen ≡ get_or clauses n clause
+clause_is clauses n seen clause inside is = is ∙ get_or_default clauses n [] clause inside
 
 moves_watch : (w : Watched) (trail seen : List Lit) (n place : ℕ) (pair : Pair) (falsified other to : Lit) → n < length w.pairs → slice_get (list_at w.lists falsified) place ≡ Some n →
     slice_get w.pairs n ≡ Some pair → IsOther pair falsified other → IsFree trail seen other to → IsFalse trail falsified →
@@ -93,12 +93,12 @@ rewatch-requires c =
     let w = c.args.watched.now in
     let n = c.nth-number.result in
     let free = c.in-Some-find_other.ensures.found in
-    let same = λ (clause : List Lit). clause_is c.clauses.result.now w.clauses n c.as_slice.result.now c.index-clauses-number.result clause c.clauses.ensures.are c.nth-number.ensures.exists c.as_slice.ensures c.index-clauses-number.is in
+    let same = λ (clause : List Lit). clause_is w.clauses n c.literals.result.now clause c.nth-number.ensures.exists c.literals.ensures.are in
     let paired = c.pair.ensures.indexed.paired in
     record {
       from_within = c.requires.within;
       to_within = within_clause w n c.in-Some-find_other.to c.pair.ensures.indexed c.nth-number.ensures.exists (subst (λ (k : List Lit). Contains k c.in-Some-find_other.to) (same []) free.stands);
-      moves = moves_watch w c.args.assignment.now.trail c.as_slice.result.now n c.args.place c.pair.result c.args.falsified c.in-Some.other c.in-Some-find_other.to (omega (arith, c.nth-number.ensures.exists))
+      moves = moves_watch w c.args.assignment.now.trail c.literals.result.now n c.args.place c.pair.result c.args.falsified c.in-Some.other c.in-Some-find_other.to (omega (arith, c.nth-number.ensures.exists))
           c.nth-number.ensures.is c.pair.ensures.is c.in-Some.ensures.watched free c.requires.falsified same;
     }
 
@@ -133,8 +133,8 @@ returns-in-False c =
     let n = c.nth-number.result in
     let trail = c.args.assignment.now.trail in
     let number = at_place w c.args.falsified c.args.place n c.nth-number.ensures.is in
-    let same = λ (clause : List Lit). clause_is c.clauses.result.now w.clauses n c.as_slice.result.now c.index-clauses-number.result clause c.clauses.ensures.are c.nth-number.ensures.exists c.as_slice.ensures c.index-clauses-number.is in
-    let all : All (IsFalse trail) c.as_slice.result.now = λ k d inside. elim (lit-cases (get_or c.as_slice.result.now k d) c.in-Some.other) [
+    let same = λ (clause : List Lit). clause_is w.clauses n c.literals.result.now clause c.nth-number.ensures.exists c.literals.ensures.are in
+    let all : All (IsFalse trail) c.literals.result.now = λ k d inside. elim (lit-cases (get_or c.literals.result.now k d) c.in-Some.other) [
       | inl is ↦ subst (IsFalse trail) (sym is) c.in-False.ensures.0
       | inr differs ↦ c.in_default-find_other.ensures.none k d inside differs
     ] in
@@ -162,7 +162,7 @@ returns c =
     let causes = c.args.assignment.now.causes in
     let other = c.in-Some.other in
     let number = at_place w c.args.falsified c.args.place n c.nth-number.ensures.is in
-    let same = λ (clause : List Lit). clause_is c.clauses.result.now w.clauses n c.as_slice.result.now c.index-clauses-number.result clause c.clauses.ensures.are c.nth-number.ensures.exists c.as_slice.ensures c.index-clauses-number.is in
+    let same = λ (clause : List Lit). clause_is w.clauses n c.literals.result.now clause c.nth-number.ensures.exists c.literals.ensures.are in
     let stands = λ (clause : List Lit). stands_other w n c.pair.result c.args.falsified other c.pair.ensures.indexed c.nth-number.ensures.exists c.pair.ensures.is c.in-Some.ensures.watched clause in
     let unit : IsUnit trail (get_or w.clauses n []) other = record {
       stands = stands [];

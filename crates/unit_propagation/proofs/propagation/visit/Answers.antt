@@ -8,7 +8,7 @@ use Rattle.cnf_core.proofs.Literals.{negation_negation}
 use Rattle.unit_propagation.specs.Units.{IsFalse}
 use Rattle.unit_propagation.specs.Assigned.{Assigned}
 use Rattle.unit_propagation.specs.Watching.{Watched, list_at}
-use Rattle.unit_propagation.specs.Ready.{AllReady, LooseAreTrue, IsSeen, clause_at}
+use Rattle.unit_propagation.specs.Ready.{AllReady, IsSeen, clause_at}
 use Rattle.unit_propagation.specs.declared.propagation.Seen.TheVariants.{Kept, Moved}
 use Rattle.unit_propagation.proofs.TrailLemmas.{implies_none}
 use Rattle.unit_propagation.proofs.ReadyLemmas.{Visiting, visiting_start, visiting_none, visiting_end, visiting_stop, keeps_none}
@@ -23,7 +23,7 @@ returns-then-width-falsified-clause-next c =
     let var = ap (λ (l : Lit). l.var) c.not-falsified.ensures in
     visiting_none c.args.watched.now c.args.assignment.now.trail c.args.head c.nth.result c.width.ensures.indexed c.requires.head
     (get_or_from_slice_get c.args.assignment.now.trail c.args.head c.nth.result c.nth.result c.nth.ensures.is)
-    (omega (arith, c.if-width-falsified.true, c.width.ensures.is)) c.requires.loose c.requires.ready
+    (omega (arith, c.if-width-falsified.true, c.width.ensures.is)) c.requires.ready
 
 pub loop-place-init : goal.loop-place-init
 loop-place-init c =
@@ -37,8 +37,7 @@ loop-place-init c =
       keeps = keeps_none w.clauses w.pairs trail;
       visiting = subst (λ (d : Lit). Visiting w.clauses w.pairs w.lists trail c.args.head d 0) (sym c.not-falsified.ensures)
           (visiting_start w trail c.args.head c.nth.result c.width.ensures.indexed c.requires.head
-          (get_or_from_slice_get trail c.args.head c.nth.result c.nth.result c.nth.ensures.is) c.requires.loose c.requires.ready);
-      loose = c.requires.loose;
+          (get_or_from_slice_get trail c.args.head c.nth.result c.nth.result c.nth.ensures.is) c.requires.ready);
     }
 
 pub step-requires-clause-falsified : goal.step-requires-clause-falsified
@@ -115,13 +114,3 @@ pub returns-clause-next : goal.returns-clause-next
 returns-clause-next c =
     visiting_end c.args.watched.now.clauses c.loop-place.watched.pairs c.loop-place.watched.lists c.loop-place.assignment.trail c.args.head c.not-falsified.result c.loop-place.place
     (omega (arith, c.loop-place-test.false, c.count.ensures.is)) c.loop-place.invariant.visiting
-
-pub returns-in-Falsified-clause-loose : goal.returns-in-Falsified-clause-loose
-returns-in-Falsified-clause-loose c =
-    let s = c.in-Falsified.ensures.seen in
-    let clauses = c.args.watched.now.clauses in
-    subst (λ (w : Watched). LooseAreTrue clauses w.pairs c.step.new.assignment.trail) (sym s.0)
-    (subst (λ (a : Assigned). LooseAreTrue clauses c.loop-place.watched.pairs a.trail) (sym s.1) c.loop-place.invariant.loose)
-
-pub returns-clause-loose : goal.returns-clause-loose
-returns-clause-loose c = c.loop-place.invariant.loose

@@ -1,5 +1,5 @@
 -- The root's clauses are the known ones, and a conflict under no decision refuses each cube.
-use Rattle.std.proofs.Common.{false, refl, subst}
+use Rattle.std.proofs.Common.{ℕ, false, refl, subst}
 use Rattle.std.specs.Prelude.{◌↔◌, IsTrue}
 use Rattle.refutation_checker.specs.Acceptance.{IsLeastConflict}
 use Rattle.refutation_checker.specs.Derivation.{Derivation, known}
@@ -19,4 +19,5 @@ pub returns-clause-answer : goal.returns-clause-answer
 returns-clause-answer c =
     let cube = c.args.cube.now in
     subst (λ (d : Derivation). IsTrue c.is_least_conflict.result ↔ IsLeastConflict d.inputs (known d) cube) c.self.view_is
-    (least_answer c.self.inside cube c.is_least_conflict.result c.self.invariant c.is_least_conflict.ensures.answer)
+    (least_answer c.self.inside cube c.is_least_conflict.result c.self.invariant
+    (subst (λ (n : ℕ). IsTrue c.is_least_conflict.result ↔ IsLeastConflict n c.self.inside.root.clauses cube) c.inputs.ensures c.is_least_conflict.ensures.answer))

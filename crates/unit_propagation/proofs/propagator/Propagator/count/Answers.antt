@@ -9,4 +9,4 @@ pub returns-clause-consistent : goal.returns-clause-consistent
 returns-clause-consistent c = subst (λ (p : Propagation). IsConsistent p.trail) c.self.view_is c.count.ensures.consistent
 
 pub returns-clause-justified : goal.returns-clause-justified
-returns-clause-justified c = subst (λ (p : Propagation). IsJustified p.clauses p.trail p.reasons) c.self.view_is c.self.invariant.1.justified
+returns-clause-justified c = subst (λ (p : Propagation). IsJustified p.clauses p.trail p.reasons) c.self.view_is c.self.invariant.state.justified

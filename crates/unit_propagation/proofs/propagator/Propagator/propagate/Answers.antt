@@ -1,5 +1,5 @@
 -- First the clauses of one literal are looked at, then those that watch what is falsified; at the end the trail is the least closed set.
-use Rattle.std.proofs.Common.{◌≡◌, ℕ, Option, Some, None, List, length, take, refl, sym, ◌∙◌, subst, arith}
+use Rattle.std.proofs.Common.{◌≡◌, ℕ, Option, Some, None, List, Vec, Global, length, take, refl, sym, ◌∙◌, subst, arith}
 use Rattle.std.specs.Prelude.{All, Contains, IfSome, IfNone}
 use Rattle.std.proofs.lemmas.List.{take_all, length-map}
 use Rattle.std.proofs.lemmas.List.Elements.{Contains-append_left}
@@ -11,10 +11,11 @@ use Rattle.unit_propagation.specs.Units.{IsConsistent}
 use Rattle.unit_propagation.specs.Trail.{decided, reasons_of, Implies}
 use Rattle.unit_propagation.specs.Watching.{Watched, IsIndexed}
 use Rattle.unit_propagation.specs.Ready.{AllReady, LooseAreTrue}
-use Rattle.unit_propagation.specs.Loose.{AreLoose, AreTrue}
+use Rattle.unit_propagation.specs.Loose.{AreTrue, IsSettled}
 use Rattle.unit_propagation.specs.Propagated.{AreAllSet, IsFalseClause, SaysNothing, IsTotal, HasTrueLiterals}
 use Rattle.unit_propagation.specs.Propagation.{Propagation, decisions}
 use Rattle.unit_propagation.specs.PropagatorFields.{IsState}
+use Rattle.unit_propagation.proofs.LooseLemmas.{settled_grows, are_true_grows}
 use Rattle.unit_propagation.proofs.TrailLemmas.{implies_then}
 use Rattle.unit_propagation.proofs.FixpointLemmas.{are_set, conflicts_false, fixed, all_set_fixed, no_conflict_fixed, decided_within, total_satisfied}
 use Rattle.unit_propagation.proofs.StateLemmas.{state_set, state_continues, state_grows, loose_true, lists_kept, continues_is}
@@ -52,57 +53,55 @@ nothing_left w clauses trail head same ready loose at_end indexed consistent =
 
 pub set_loose-requires-clause-loose : goal.set_loose-requires-clause-loose
 set_loose-requires-clause-loose c =
-    subst (λ (cs : List (List Lit)). AreLoose cs c.as_slice.result.now) (sym c.clauses.ensures.are)
-    (subst (AreLoose c.self.inside.watched.clauses) (sym c.as_slice.ensures.value) c.self.invariant.1.are_loose)
+    c.self.invariant.state.are_loose
+
+pub set_loose-requires-clause-settled : goal.set_loose-requires-clause-settled
+set_loose-requires-clause-settled c =
+    c.self.invariant.settled
 
 pub invariant_of-self : goal.invariant_of-self
 invariant_of-self c =
     let inside = c.self.inside in
     let w = inside.watched in
     let new = c.set_loose.new.assignment in
-    let implies = subst (λ (cs : List (List Lit)). Implies cs inside.assignment.trail inside.assignment.causes new.trail new.causes) c.clauses.ensures.are c.in-Some.ensures.implies in (
-      omega (arith, c.self.invariant.0, c.in-Some.ensures.width),
-      state_set w.clauses w.pairs inside.assignment.trail new.trail inside.assignment.causes new.causes inside.head inside.loose.items c.self.invariant.1 implies,
-    )
+    let implies = c.in-Some.ensures.implies in
+    record {
+      width = omega (arith, c.self.invariant.width, c.in-Some.ensures.width);
+      state = subst (λ (v : Vec ℕ Global). IsState w.clauses w.pairs new.trail new.causes inside.head v.items) (sym c.in-Some.ensures.numbers)
+          (state_set w.clauses w.pairs inside.assignment.trail new.trail inside.assignment.causes new.causes inside.head inside.loose.numbers.items c.self.invariant.state implies);
+      settled = c.in-Some.ensures.settled;
+    }
 
 pub returns-in-Some-clause-continues : goal.returns-in-Some-clause-continues
 returns-in-Some-clause-continues c =
     let inside = c.self.inside in
     let w = inside.watched in
     let new = c.set_loose.new.assignment in
-    let implies = subst (λ (cs : List (List Lit)). Implies cs inside.assignment.trail inside.assignment.causes new.trail new.causes) c.clauses.ensures.are c.in-Some.ensures.implies in
-    continues_is c.args.self.now w.width w.clauses inside.assignment.trail new.trail inside.assignment.causes new.causes w.width w.clauses c.self.view_is refl refl c.self.invariant.1.sized implies
+    let implies = c.in-Some.ensures.implies in
+    continues_is c.args.self.now w.width w.clauses inside.assignment.trail new.trail inside.assignment.causes new.causes w.width w.clauses c.self.view_is refl refl c.self.invariant.state.sized implies
 
 pub returns-in-Some-clause-conflict : goal.returns-in-Some-clause-conflict
 returns-in-Some-clause-conflict c =
-    subst (λ (cs : List (List Lit)). IsFalseClause cs c.set_loose.new.assignment.trail c.in-Some.clause) c.clauses.ensures.are c.in-Some.ensures.falsified
+    c.in-Some.ensures.falsified
 
 pub returns-in-Some-clause-conflicts : goal.returns-in-Some-clause-conflicts
 returns-in-Some-clause-conflicts c =
     let inside = c.self.inside in
     let w = inside.watched in
     let new = c.set_loose.new.assignment in
-    let implies = subst (λ (cs : List (List Lit)). Implies cs inside.assignment.trail inside.assignment.causes new.trail new.causes) c.clauses.ensures.are c.in-Some.ensures.implies in
-    let falsified = subst (λ (cs : List (List Lit)). IsFalseClause cs new.trail c.in-Some.clause) c.clauses.ensures.are c.in-Some.ensures.falsified in
+    let implies = c.in-Some.ensures.implies in
+    let falsified = c.in-Some.ensures.falsified in
     subst (λ (p : Propagation). Conflicts p.clauses (decisions p)) c.self.view_is
     (conflicts_false w.clauses (decided inside.assignment.trail (reasons_of inside.assignment.causes)) new.trail c.in-Some.clause
-    (are_set_since w.clauses w.pairs inside.assignment.trail new.trail inside.assignment.causes new.causes inside.head inside.loose.items c.self.invariant.1 implies) falsified)
+    (are_set_since w.clauses w.pairs inside.assignment.trail new.trail inside.assignment.causes new.causes inside.head inside.loose.numbers.items c.self.invariant.state implies) falsified)
 
 pub run-requires-clause-ready : goal.run-requires-clause-ready
 run-requires-clause-ready c =
     let inside = c.self.inside in
     let w = inside.watched in
     let new = c.set_loose.new.assignment in
-    let implies = subst (λ (cs : List (List Lit)). Implies cs inside.assignment.trail inside.assignment.causes new.trail new.causes) c.clauses.ensures.are c.in_default.ensures.implies in
-    (state_set w.clauses w.pairs inside.assignment.trail new.trail inside.assignment.causes new.causes inside.head inside.loose.items c.self.invariant.1 implies).ready
-
-pub run-requires-clause-loose : goal.run-requires-clause-loose
-run-requires-clause-loose c =
-    let inside = c.self.inside in
-    let w = inside.watched in
-    let new = c.set_loose.new.assignment in
-    let are = subst (λ (cs : List (List Lit)). AreTrue cs c.as_slice.result.now new.trail) c.clauses.ensures.are c.in_default.ensures.are_true in
-    loose_true w.clauses w.pairs inside.loose.items new.trail c.self.invariant.1.listed (subst (λ (ls : List ℕ). AreTrue w.clauses ls new.trail) c.as_slice.ensures.value are)
+    let implies = c.in_default.ensures.implies in
+    (state_set w.clauses w.pairs inside.assignment.trail new.trail inside.assignment.causes new.causes inside.head inside.loose.numbers.items c.self.invariant.state implies).ready
 
 implied : (c : goal.After-run) → Implies c.self.inside.watched.clauses c.self.inside.assignment.trail c.self.inside.assignment.causes c.run.new.assignment.trail c.run.new.assignment.causes
 implied c =
@@ -110,7 +109,7 @@ implied c =
     let mid = c.set_loose.new.assignment in
     let end = c.run.new.assignment in
     implies_then inside.watched.clauses inside.assignment.trail mid.trail end.trail inside.assignment.causes mid.causes end.causes
-    (subst (λ (cs : List (List Lit)). Implies cs inside.assignment.trail inside.assignment.causes mid.trail mid.causes) c.clauses.ensures.are c.in_default.ensures.implies) c.run.ensures.implies
+    (c.in_default.ensures.implies) c.run.ensures.implies
 
 pub invariant_of-self-2 : goal.invariant_of-self-2
 invariant_of-self-2 c =
@@ -118,14 +117,19 @@ invariant_of-self-2 c =
     let w = inside.watched in
     let mid = c.set_loose.new.assignment in
     let end = c.run.new.assignment in
-    let first = subst (λ (cs : List (List Lit)). Implies cs inside.assignment.trail inside.assignment.causes mid.trail mid.causes) c.clauses.ensures.are c.in_default.ensures.implies in
-    let s = state_set w.clauses w.pairs inside.assignment.trail mid.trail inside.assignment.causes mid.causes inside.head inside.loose.items c.self.invariant.1 first in
-    let new_pairs = c.run.new.watched.pairs in (
-      omega (arith, c.self.invariant.0, c.in_default.ensures.width, c.run.ensures.width, c.run.ensures.assignment_width),
-      state_grows w.clauses c.run.new.watched.clauses new_pairs new_pairs end.trail end.causes c.run.new.head inside.loose.items (sym c.run.ensures.clauses) refl
-          (state_continues w.clauses w.pairs new_pairs mid.trail end.trail mid.causes end.causes inside.head c.run.new.head inside.loose.items s c.run.ensures.implies c.run.ensures.keeps
-          (lists_kept w.pairs new_pairs inside.loose.items c.run.ensures.keeps.size c.run.ensures.keeps.pairs s.listed) c.run.ensures.ready c.run.ensures.head),
-    )
+    let first = c.in_default.ensures.implies in
+    let s = state_set w.clauses w.pairs inside.assignment.trail mid.trail inside.assignment.causes mid.causes inside.head inside.loose.numbers.items c.self.invariant.state first in
+    let new_pairs = c.run.new.watched.pairs in
+    let settled = c.in_default.ensures.settled in
+    record {
+      width = omega (arith, c.self.invariant.width, c.in_default.ensures.width, c.run.ensures.width, c.run.ensures.assignment_width);
+      state = subst (λ (v : Vec ℕ Global). IsState c.run.new.watched.clauses new_pairs end.trail end.causes c.run.new.head v.items) (sym c.in_default.ensures.numbers) (state_grows w.clauses c.run.new.watched.clauses new_pairs new_pairs end.trail end.causes c.run.new.head inside.loose.numbers.items (sym c.run.ensures.clauses) refl
+          (state_continues w.clauses w.pairs new_pairs mid.trail end.trail mid.causes end.causes inside.head c.run.new.head inside.loose.numbers.items s c.run.ensures.implies c.run.ensures.keeps
+          (lists_kept w.pairs new_pairs inside.loose.numbers.items c.run.ensures.keeps.size c.run.ensures.keeps.pairs s.listed) c.run.ensures.ready c.run.ensures.head));
+      settled = subst (λ (cs : List (List Lit)). IsSettled cs end.trail c.set_loose.new.loose) (sym c.run.ensures.clauses)
+          (subst (λ (t : List Lit). IsSettled w.clauses t c.set_loose.new.loose) (sym c.run.ensures.implies.trail)
+          (settled_grows w.clauses mid.trail c.run.ensures.implies.more c.set_loose.new.loose settled));
+    }
 
 pub returns-clause-continues : goal.returns-clause-continues
 returns-clause-continues c =
@@ -133,7 +137,7 @@ returns-clause-continues c =
     let w = inside.watched in
     let end = c.run.new.assignment in
     continues_is c.args.self.now w.width w.clauses inside.assignment.trail end.trail inside.assignment.causes end.causes c.run.new.watched.width c.run.new.watched.clauses c.self.view_is
-    c.run.ensures.width c.run.ensures.clauses c.self.invariant.1.sized (implied c)
+    c.run.ensures.width c.run.ensures.clauses c.self.invariant.state.sized (implied c)
 
 pub returns-clause-conflicts : goal.returns-clause-conflicts
 returns-clause-conflicts c =
@@ -144,13 +148,24 @@ returns-clause-conflicts c =
     if_some c.run.result (λ k. IsFalseClause w.clauses end.trail k) Q
     (λ k falsified. subst (λ (p : Propagation). Conflicts p.clauses (decisions p)) c.self.view_is
     (conflicts_false w.clauses (decided inside.assignment.trail (reasons_of inside.assignment.causes)) end.trail k
-    (are_set_since w.clauses w.pairs inside.assignment.trail end.trail inside.assignment.causes end.causes inside.head inside.loose.items c.self.invariant.1 (implied c)) falsified))
+    (are_set_since w.clauses w.pairs inside.assignment.trail end.trail inside.assignment.causes end.causes inside.head inside.loose.numbers.items c.self.invariant.state (implied c)) falsified))
     c.run.ensures.falsified
 
 left : (c : goal.After-run) → c.run.new.head ≡ length c.run.new.assignment.trail → IsIndexed c.run.new.watched.width c.run.new.watched.clauses c.run.new.watched.pairs c.run.new.watched.lists →
     IsConsistent c.run.new.assignment.trail → All (SaysNothing c.run.new.assignment.trail) c.self.inside.watched.clauses
 left c at_end indexed consistent =
-    nothing_left c.run.new.watched c.self.inside.watched.clauses c.run.new.assignment.trail c.run.new.head c.run.ensures.clauses c.run.ensures.ready c.run.ensures.loose at_end indexed consistent
+    let inside = c.self.inside in
+    let clauses = inside.watched.clauses in
+    let mid = c.set_loose.new.assignment in
+    let numbers = inside.loose.numbers.items in
+    let are : AreTrue clauses numbers mid.trail =
+    subst (λ (v : Vec ℕ Global). AreTrue clauses v.items mid.trail) c.in_default.ensures.numbers
+    c.in_default.ensures.are_true in
+    let are_now : AreTrue clauses numbers c.run.new.assignment.trail =
+    subst (AreTrue clauses numbers) (sym c.run.ensures.implies.trail) (are_true_grows clauses numbers mid.trail c.run.ensures.implies.more are) in
+    let loose = loose_true clauses c.run.new.watched.pairs numbers c.run.new.assignment.trail
+    (lists_kept inside.watched.pairs c.run.new.watched.pairs numbers c.run.ensures.keeps.size c.run.ensures.keeps.pairs c.self.invariant.state.listed) are_now in
+    nothing_left c.run.new.watched clauses c.run.new.assignment.trail c.run.new.head c.run.ensures.clauses c.run.ensures.ready loose at_end indexed consistent
 
 pub returns-clause-all_set : goal.returns-clause-all_set
 returns-clause-all_set c =
@@ -161,7 +176,7 @@ returns-clause-all_set c =
     (AreAllSet c.args.self.now.clauses (decisions c.args.self.now) end.trail)
     (λ at_end indexed consistent. subst (λ (p : Propagation). AreAllSet p.clauses (decisions p) end.trail) c.self.view_is
     (all_set_fixed w.clauses (decided inside.assignment.trail (reasons_of inside.assignment.causes)) end.trail (decided_since w.clauses inside.assignment.trail end.trail inside.assignment.causes end.causes (implied c))
-    (are_set_since w.clauses w.pairs inside.assignment.trail end.trail inside.assignment.causes end.causes inside.head inside.loose.items c.self.invariant.1 (implied c)) (left c at_end indexed consistent)))
+    (are_set_since w.clauses w.pairs inside.assignment.trail end.trail inside.assignment.causes end.causes inside.head inside.loose.numbers.items c.self.invariant.state (implied c)) (left c at_end indexed consistent)))
     c.run.ensures.ended c.run.ensures.indexed c.run.ensures.consistent
 
 pub returns-clause-none : goal.returns-clause-none

@@ -18,6 +18,6 @@ read causes place c at = get_or-map (λ (k : Cause). k.reason) causes place c No
 
 pub returns-clause-explains : goal.returns-clause-explains
 returns-clause-explains c =
-    let justified = subst (λ (p : Propagation). IsJustified p.clauses p.trail p.reasons) c.self.view_is c.self.invariant.1.justified in
+    let justified = subst (λ (p : Propagation). IsJustified p.clauses p.trail p.reasons) c.self.view_is c.self.invariant.state.justified in
     let is = ap (λ (p : Propagation). get_or p.reasons c.args.place None) (sym c.self.view_is) ∙ read c.self.inside.assignment.causes c.args.place c.cause.result c.cause.ensures in
     explains c.args.self.now c.args.place c.cause.result.reason justified c.requires is

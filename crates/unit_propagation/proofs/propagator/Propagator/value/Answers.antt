@@ -19,9 +19,9 @@ use Rattle.unit_propagation.proofs.propagator.Propagator.value.Goals as goal
 follows : (a : Inside) (l : Lit) (t : Truth) → IsPropagator a → StandsAs a.assignment.trail l t → FollowsAs (propagation_of a) l t
 follows a l True h stands =
     All-contains (Sets a.watched.clauses (decided a.assignment.trail (reasons_of a.assignment.causes))) a.assignment.trail l
-    (are_set a.watched.clauses a.assignment.trail (reasons_of a.assignment.causes) (length-map a.assignment.causes (λ (k : Cause). k.reason) ∙ h.1.sized) h.1.justified) stands.0
+    (are_set a.watched.clauses a.assignment.trail (reasons_of a.assignment.causes) (length-map a.assignment.causes (λ (k : Cause). k.reason) ∙ h.state.sized) h.state.justified) stands.0
 follows a l False h stands =
-    is_refuted a.watched.clauses a.assignment.trail (reasons_of a.assignment.causes) l (length-map a.assignment.causes (λ (k : Cause). k.reason) ∙ h.1.sized) h.1.justified stands.0
+    is_refuted a.watched.clauses a.assignment.trail (reasons_of a.assignment.causes) l (length-map a.assignment.causes (λ (k : Cause). k.reason) ∙ h.state.sized) h.state.justified stands.0
 follows a l Open h stands = tt
 
 pub returns-clause-stands : goal.returns-clause-stands

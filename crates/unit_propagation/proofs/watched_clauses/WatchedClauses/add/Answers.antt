@@ -28,11 +28,11 @@ list_clause-requires c =
     let inside = c.self.inside in
     let width = ap (λ (w : Watched). w.width) c.self.view_is in
     let h = c.self.invariant in
-    let within : IsWithin inside.width c.args.clause = subst (λ (n : ℕ). IsWithin n c.args.clause) (sym width) c.requires.within in
+    let within : IsWithin inside.width c.args.clause.now = subst (λ (n : ℕ). IsWithin n c.args.clause.now) (sym width) c.requires.within in
     subst (λ (ls : List (List ℕ)). ListsRoom c.args.pair ls (map (λ (v : Vec ℕ Global). vec_capacity v) c.make_room.new.lists.items)) (sym c.in_ok-make_room.ensures.lists)
-    (fits inside.width inside.clauses.items inside.pairs.items (map f inside.lists.items) (map (λ (v : Vec ℕ Global). vec_capacity v) c.make_room.new.lists.items)
-    inside.held.items c.make_room.new.held.items c.args.clause c.args.pair h.indexed h.held within c.requires.stands
-    (λ l stands. c.in_ok-make_room.ensures.grows l (subst (λ (ls : List Lit). Contains ls l) (sym c.as_slice.ensures) stands)) c.in_ok-make_room.ensures.room)
+    (fits inside.width inside.clauses inside.pairs.items (map f inside.lists.items) (map (λ (v : Vec ℕ Global). vec_capacity v) c.make_room.new.lists.items)
+    inside.held.items c.make_room.new.held.items c.args.clause.now c.args.pair h.indexed h.held within c.requires.stands
+    c.in_ok-make_room.ensures.grows c.in_ok-make_room.ensures.room)
 
 pub invariant_of-self-2 : goal.invariant_of-self-2
 invariant_of-self-2 c =
@@ -40,28 +40,26 @@ invariant_of-self-2 c =
     let inside = c.self.inside in
     let h = c.self.invariant in
     let width = ap (λ (w : Watched). w.width) c.self.view_is in
-    let within : IsWithin inside.width c.args.clause = subst (λ (n : ℕ). IsWithin n c.args.clause) (sym width) c.requires.within in
-    let clauses_is : c.push_reserved.new.self.items ≡ inside.clauses.items ++ c.args.clause ∷ [] =
-    c.push_reserved.ensures.items ∙ ap (λ (cs : List (List Lit)). cs ++ c.args.clause ∷ []) c.in_ok-reserve.ensures.items in
-    let pairs_is : c.push_reserved-2.new.self.items ≡ inside.pairs.items ++ c.args.pair ∷ [] =
-    c.push_reserved-2.ensures.items ∙ ap (λ (ps : List Pair). ps ++ c.args.pair ∷ []) c.in_ok-reserve-2.ensures.items in
-    let clauses_size = ap length c.in_ok-reserve.ensures.items in
-    let number : c.len.result ≡ length inside.clauses.items = omega (arith, c.len.ensures, c.reserve.new.self.ok.0) in
-    let listed : ListsClause c.args.pair (length inside.clauses.items) (map f inside.lists.items) (map f c.list_clause.new.lists.items) =
+    let within : IsWithin inside.width c.args.clause.now = subst (λ (n : ℕ). IsWithin n c.args.clause.now) (sym width) c.requires.within in
+    let clauses_is : c.push.new.self ≡ inside.clauses ++ c.args.clause.now ∷ [] = c.in_ok-push.ensures.pushed in
+    let pairs_is : c.push_reserved.new.self.items ≡ inside.pairs.items ++ c.args.pair ∷ [] =
+    c.push_reserved.ensures.items ∙ ap (λ (ps : List Pair). ps ++ c.args.pair ∷ []) c.in_ok-reserve.ensures.items in
+    let number : c.in-Some.number ≡ length inside.clauses = c.in-Some.ensures.is ∙ c.len.ensures in
+    let listed : ListsClause c.args.pair (length inside.clauses) (map f inside.lists.items) (map f c.list_clause.new.lists.items) =
     subst (λ (n : ℕ). ListsClause c.args.pair n (map f inside.lists.items) (map f c.list_clause.new.lists.items)) number
-    (subst (λ (ls : List (List ℕ)). ListsClause c.args.pair c.len.result ls (map f c.list_clause.new.lists.items)) c.in_ok-make_room.ensures.lists c.list_clause.ensures.listed) in
+    (subst (λ (ls : List (List ℕ)). ListsClause c.args.pair c.in-Some.number ls (map f c.list_clause.new.lists.items)) c.in_ok-make_room.ensures.lists c.list_clause.ensures.listed) in
     let before = length-map inside.lists.items f in
     let mid = length-map c.make_room.new.lists.items f in
     let after = length-map c.list_clause.new.lists.items f in
     let same = ap length c.in_ok-make_room.ensures.lists in
     record {
-      indexed = subst (λ (ps : List Pair). IsIndexed inside.width c.push_reserved.new.self.items ps (map f c.list_clause.new.lists.items)) (sym pairs_is)
+      indexed = subst (λ (ps : List Pair). IsIndexed inside.width c.push.new.self ps (map f c.list_clause.new.lists.items)) (sym pairs_is)
           (subst (λ (cs : List (List Lit)). IsIndexed inside.width cs (inside.pairs.items ++ c.args.pair ∷ []) (map f c.list_clause.new.lists.items)) (sym clauses_is)
-          (indexed_more inside.width inside.clauses.items inside.pairs.items (map f inside.lists.items) (map f c.list_clause.new.lists.items) c.args.clause c.args.pair
+          (indexed_more inside.width inside.clauses inside.pairs.items (map f inside.lists.items) (map f c.list_clause.new.lists.items) c.args.clause.now c.args.pair
           h.indexed within c.requires.stands (omega (arith, c.list_clause.ensures.size)) listed));
       held_size = omega (arith, h.held_size, c.in_ok-make_room.ensures.size);
       held = subst (λ (cs : List (List Lit)). IsHeld cs c.make_room.new.held.items) (sym clauses_is)
-          (held_more inside.clauses.items c.args.clause inside.held.items c.make_room.new.held.items h.held c.in_ok-make_room.ensures.keeps
-          (λ l stands. c.in_ok-make_room.ensures.grows l (subst (λ (ls : List Lit). Contains ls l) (sym c.as_slice.ensures) stands)));
+          (held_more inside.clauses c.args.clause.now inside.held.items c.make_room.new.held.items h.held c.in_ok-make_room.ensures.keeps
+          c.in_ok-make_room.ensures.grows);
       room = λ i. let a = c.in_ok-make_room.ensures.room i in let b = c.list_clause.ensures.rooms i in omega arith;
     }

@@ -44,11 +44,11 @@ append-requires-clause-room c =
     let g = λ (v : Vec ℕ Global). vec_capacity v in
     let inside = c.self.inside in
     let lists = inside.lists.items in
-    let w : Watched = record { width = inside.width; clauses = inside.clauses.items; pairs = inside.pairs.items; lists = map f lists } in
+    let w : Watched = record { width = inside.width; clauses = inside.clauses; pairs = inside.pairs.items; lists = map f lists } in
     let moves = inside_of c.args.self.now w c.args.clause c.args.from c.args.place c.args.other c.args.to c.self.view_is c.requires.moves in
     let h = c.self.invariant in
     let apart : code_of c.args.to ≢ c.code.result = λ same. moves.not_from (code_same c.args.to c.args.from (same ∙ c.code.ensures)) in
-    let new = c.swap_remove.new.self in
+    let new = c.swap_remove-number.new.self in
     let list_same : list_at (map f (set lists c.code.result new)) c.args.to ≡ list_at (map f lists) c.args.to =
     ap (λ (ls : List (List ℕ)). list_at ls c.args.to) (map-set f lists c.code.result new) ∙ get_or-set_other (map f lists) c.code.result (code_of c.args.to) new.items [] apart in
     let room_same : get_or (map g (set lists c.code.result new)) (code_of c.args.to) 0 ≡ get_or (map g lists) (code_of c.args.to) 0 =
@@ -65,7 +65,7 @@ moved c =
     let f = λ (v : Vec ℕ Global). v.items in
     let inside = c.self.inside in
     let lists = inside.lists.items in
-    let w : Watched = record { width = inside.width; clauses = inside.clauses.items; pairs = inside.pairs.items; lists = map f lists } in
+    let w : Watched = record { width = inside.width; clauses = inside.clauses; pairs = inside.pairs.items; lists = map f lists } in
     let moves = inside_of c.args.self.now w c.args.clause c.args.from c.args.place c.args.other c.args.to c.self.view_is c.requires.moves in
     let width = ap (λ (x : Watched). x.width) c.self.view_is in
     let size = length-map lists f in
@@ -77,11 +77,15 @@ moved c =
     subst (λ (xs : List ℕ). c.args.place < length xs) (sym list_is) (slice_get_within (list_at (map f lists) c.args.from) c.args.place c.args.clause moves.here) in
     let here : get_or c.index_mut-list.result.now.items c.args.place c.args.clause ≡ c.args.clause =
     ap (λ (xs : List ℕ). get_or xs c.args.place c.args.clause) list_is ∙ get_or_from_slice_get (list_at (map f lists) c.args.from) c.args.place c.args.clause c.args.clause moves.here in
-    let mid = left lists c.code.result c.args.place c.args.clause c.index_mut-list.result.now c.swap_remove.new.self c.swap_remove.result at_code c.index_mut-list.ensures.value
-    c.swap_remove.ensures.items c.swap_remove.ensures.value within here in
-    let mid_is : map f (set lists c.code.result c.swap_remove.new.self) ≡ set (map f lists) (code_of c.args.from) (swap_remove (list_at (map f lists) c.args.from) c.args.place c.args.clause) =
+    let mid = left lists c.code.result c.args.place c.args.clause c.index_mut-list.result.now c.swap_remove-number.new.self c.swap_remove-number.result at_code c.index_mut-list.ensures.value
+    c.swap_remove-number.ensures.items c.swap_remove-number.ensures.value within here in
+    let mid_is : map f (set lists c.code.result c.swap_remove-number.new.self) ≡ set (map f lists) (code_of c.args.from) (swap_remove (list_at (map f lists) c.args.from) c.args.place c.args.clause) =
     mid ∙ ap (λ (i : ℕ). set (map f lists) i (swap_remove (get_or (map f lists) i []) c.args.place c.args.clause)) c.code.ensures in
-    c.append.ensures.lists ∙ ap (λ (ls : List (List ℕ)). set ls (code_of c.args.to) (list_at ls c.args.to ++ c.args.clause ∷ [])) mid_is
+    let same : c.swap_remove-number.result ≡ c.args.clause =
+    c.swap_remove-number.ensures.value ∙ get_or_default c.index_mut-list.result.now.items c.args.place c.swap_remove-number.result c.args.clause within ∙ here in
+    let left = map f (set lists c.code.result c.swap_remove-number.new.self) in
+    c.append.ensures.lists ∙ ap (λ (n : ℕ). set left (code_of c.args.to) (list_at left c.args.to ++ n ∷ [])) same
+    ∙ ap (λ (ls : List (List ℕ)). set ls (code_of c.args.to) (list_at ls c.args.to ++ c.args.clause ∷ [])) mid_is
 
 are_moved : (c : goal.After-append) → AreMoved (map (λ (v : Vec ℕ Global). v.items) c.self.inside.lists.items) (map (λ (v : Vec ℕ Global). v.items) c.append.new.lists.items)
     c.args.from c.args.place c.args.clause c.args.to
@@ -100,13 +104,13 @@ invariant_of-self c =
     let g = λ (v : Vec ℕ Global). vec_capacity v in
     let inside = c.self.inside in
     let lists = inside.lists.items in
-    let w : Watched = record { width = inside.width; clauses = inside.clauses.items; pairs = inside.pairs.items; lists = map f lists } in
+    let w : Watched = record { width = inside.width; clauses = inside.clauses; pairs = inside.pairs.items; lists = map f lists } in
     let moves = inside_of c.args.self.now w c.args.clause c.args.from c.args.place c.args.other c.args.to c.self.view_is c.requires.moves in
     let h = c.self.invariant in
     let width = ap (λ (x : Watched). x.width) c.self.view_is in
     let a = length-map lists f in
     let b = length-map c.append.new.lists.items f in
-    let d = length-set lists c.code.result c.swap_remove.new.self in
+    let d = length-set lists c.code.result c.swap_remove-number.new.self in
     let below = code_below c.args.from inside.width (length (map f lists)) (omega (arith, c.requires.from_within)) h.indexed.size in
     let read = map_read g lists c.code.result c.index_mut-list.result.now 0 (omega (arith, c.code.ensures)) c.index_mut-list.ensures.value in
     record {
@@ -116,8 +120,8 @@ invariant_of-self c =
       held = h.held;
       room = λ i.
           let before = h.room i in
-          let keeps = set_keeps (map g lists) c.code.result (vec_capacity c.swap_remove.new.self) (omega (arith, c.swap_remove.ensures.capacity)) i in
-          let same = ap (λ (ls : List ℕ). get_or ls i 0) (map-set g lists c.code.result c.swap_remove.new.self) in
+          let keeps = set_keeps (map g lists) c.code.result (vec_capacity c.swap_remove-number.new.self) (omega (arith, c.swap_remove-number.ensures.capacity)) i in
+          let same = ap (λ (ls : List ℕ). get_or ls i 0) (map-set g lists c.code.result c.swap_remove-number.new.self) in
           let after = c.append.ensures.rooms i in
           omega arith;
     }

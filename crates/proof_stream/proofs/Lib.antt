@@ -1,0 +1,13 @@
+pub mod HexLemmas
+pub mod TextLemmas
+pub mod ListLemmas
+pub mod NumberLemmas
+pub mod WordLemmas
+pub mod HexWordLemmas
+pub mod ClauseLemmas
+pub mod LineLemmas
+pub mod DraftLemmas
+pub mod SplitLemmas
+pub mod FaultLemmas
+pub mod StepLemmas
+pub mod ReadLemmas

@@ -1,0 +1,10 @@
+pub mod Appends
+pub mod Words
+pub mod Keywords
+pub mod Spelling
+pub mod Valid
+pub mod Faults
+pub mod HexValues
+pub mod Reading
+pub mod Drafts
+pub mod Answers

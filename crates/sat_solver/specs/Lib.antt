@@ -1,0 +1,5 @@
+pub mod Determined
+pub mod Answers
+pub mod Deciding
+pub mod Reducing
+pub mod Solving

@@ -1,0 +1,25 @@
+//! Copies of clauses, and the clause that a cube counts as.
+
+ghost use Rattle.std.specs.Prelude.{◌≡◌, IfOk, map};
+ghost use Rattle.cnf_core.specs.Literal.{negation};
+
+use cnf_core::{Clause, Cube};
+use sqlite_items::Items;
+use std::alloc::{AllocError, Global};
+
+pub fn copy(alloc: Global, clause: &Clause) -> Result<Clause, AllocError>
+    ensures { IfOk result (λ copied. copied ≡ clause.now) }
+{
+    Items::from_slice(alloc, clause.as_slice())
+}
+
+/// The clause of the negations of the cube's literals.
+pub fn negations(alloc: Global, cube: &Cube) -> Result<Clause, AllocError>
+    ensures { IfOk result (λ clause. clause ≡ map negation cube.now) }
+{
+    let mut clause = Vec::with_capacity(alloc, cube.len())?;
+    for l in cube.as_slice() {
+        clause.push(!*l)?;
+    }
+    Ok(Items::from_vec(clause))
+}

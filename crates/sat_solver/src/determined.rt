@@ -1,0 +1,27 @@
+//! A test for formulas that may be solved.
+
+ghost use Rattle.std.specs.Prelude.{◌↔◌, IsTrue, All};
+ghost use Rattle.refutation_checker.specs.Derivation.{IsInput};
+ghost use Rattle.sat_solver.specs.Determined.{IsDetermined, AreNumbered};
+
+use cnf_core::{Clauses, Lit};
+
+/// Whether each variable of the clauses is an input, which is enough for `solve`.
+pub fn all_are_inputs(clauses: &Clauses, inputs: u32) -> bool
+    ensures answer { IsTrue result ↔ All (All (λ l. IsInput inputs l.var)) clauses.now }
+    ensures numbered { IsTrue result → AreNumbered clauses.now }
+    ensures determined { IsTrue result → IsDetermined inputs clauses.now }
+{
+    for clause in clauses.as_slice() {
+        if !are_inputs(clause.as_slice(), inputs) {
+            return false;
+        }
+    }
+    true
+}
+
+fn are_inputs(lits: &[Lit], inputs: u32) -> bool
+    ensures { IsTrue result ↔ All (λ l. IsInput inputs l.var) lits.now }
+{
+    lits.iter().all(|l| 0 < l.var && l.var <= inputs)
+}
