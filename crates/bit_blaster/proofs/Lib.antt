@@ -1,0 +1,17 @@
+pub mod ChoiceLemmas
+pub mod CompareLemmas
+pub mod FormulaLemmas
+pub mod GateClauseLemmas
+pub mod GateLemmas
+pub mod MultiplierLemmas
+pub mod NegationLemmas
+pub mod NetlistLemmas
+pub mod OperatorLemmas
+pub mod PartLemmas
+pub mod PointLemmas
+pub mod SaturationLemmas
+pub mod ShifterLemmas
+pub mod TermWordLemmas
+pub mod TruthLemmas
+pub mod VariableLemmas
+pub mod WordLemmas

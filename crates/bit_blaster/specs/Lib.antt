@@ -1,0 +1,12 @@
+pub mod Clauses
+pub mod Gate
+pub mod Multiplier
+pub mod Netlist
+pub mod Pair
+pub mod Saturation
+pub mod Shifter
+pub mod TermWord
+pub mod Tseitin
+pub mod Vars
+pub mod Wire
+pub mod Word
