@@ -4,3 +4,9 @@ pub mod Certificate
 pub mod GoodTable
 pub mod WordsLemmas
 pub mod DepthLemmas
+pub mod AheadLemmas
+pub mod FormsAndWords
+pub mod WalkLemmas
+pub mod RowsOfForms
+pub mod ListLemmas
+pub mod NameRows

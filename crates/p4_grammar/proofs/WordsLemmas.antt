@@ -15,7 +15,7 @@ use Rattle.p4_grammar.specs.Rows.{grammar_rows}
 use Rattle.p4_grammar.specs.Words.{keyword_symbol, sign_symbol, terminal_of, terminals_of}
 use Rattle.p4_grammar.proofs.GoodTable.{word_is_token_here}
 
-abbrev is_word : ℕ → Bool
+abbrev pub is_word : ℕ → Bool
 is_word x = leb FORM_COUNT x && ltb x SYMBOL_COUNT
 
 keyword_is_word : (k : Keyword) → is_word (keyword_symbol k) ≡ true
@@ -91,7 +91,7 @@ sign_is_word sign.Dot = refl
 sign_is_word sign.Question = refl
 sign_is_word sign.Underscore = refl
 
-terminal_is_word : (w : Word) → is_word (terminal_of w) ≡ true
+pub terminal_is_word : (w : Word) → is_word (terminal_of w) ≡ true
 terminal_is_word (word.Keyword k) = keyword_is_word k
 terminal_is_word (word.Sign s) = sign_is_word s
 terminal_is_word (word.Reserved reserved) = refl

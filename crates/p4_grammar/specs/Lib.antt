@@ -3,6 +3,9 @@ pub mod Words
 pub mod Derivation
 pub mod Depth
 pub mod Parses
+pub mod Ahead
+pub mod ParseCode
+pub mod Walk
 pub mod Names
 pub mod Expressions
 pub mod Keys

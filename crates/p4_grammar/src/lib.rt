@@ -4,12 +4,15 @@
 //! `specs/Rows.antt` has the rows, by subject. `language_table` gives them as a table of `ll1_engine`; that the table is good
 //! is proved, so nothing but want of memory is refused there. `derivation_of` gives the rows of a derivation. Which tree of
 //! `p4_tree` a derivation has is defined form by form, up to `specs/Sources.antt`, and how deep a token stands in
-//! `specs/Depth.antt`; no function builds the tree or counts the depth yet.
+//! `specs/Depth.antt`. A cursor goes along a derivation (`cursor`), and names and annotations are read with it (`names`); no
+//! function builds the whole tree or counts the depth yet.
 #![tactic(auto)]
 
+mod cursor;
 mod derivation;
 pub mod laws;
 mod limits;
+mod names;
 mod rows;
 pub mod symbols;
 mod table;

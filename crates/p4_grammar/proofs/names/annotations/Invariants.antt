@@ -1,0 +1,18 @@
+-- The annotations so far and those ahead are all.
+use Rattle.std.proofs.Common.{◌≡◌}
+use Rattle.p4_grammar.specs.declared.symbols.TheConstants.{ANNOTATIONS}
+use Rattle.p4_grammar.specs.Ahead.{Begins, below, after}
+use Rattle.p4_grammar.specs.Names.{annotations}
+use Rattle.p4_grammar.proofs.AheadLemmas.{nodes}
+use Rattle.p4_grammar.proofs.ListLemmas.{behind}
+use Rattle.p4_grammar.proofs.names.annotations.Given as goal
+
+abbrev pub invariant-loop-alloc : goal.invariant-loop-alloc
+invariant-loop-alloc l = record {
+  begins : Begins ANNOTATIONS l.cursor;
+  list : behind l.all.items (annotations (below l.cursor)) ≡ annotations (below l.fn.cursor);
+  rest : after l.cursor ≡ after l.fn.cursor;
+}
+
+abbrev pub decreases-loop-alloc : goal.decreases-loop-alloc
+decreases-loop-alloc l = nodes l.cursor
