@@ -1,4 +1,5 @@
 pub mod TreesLemmas
+pub mod RowsBeforeLemmas
 pub mod FirstLemmas
 pub mod MayRankLemmas
 pub mod PredictionLemmas
@@ -6,6 +7,7 @@ pub mod StateLemmas
 pub mod HasTreeLemmas
 pub mod ProductiveLemmas
 pub mod OpenLemmas
+pub mod OneTreeLemmas
 pub mod StopsAtLemmas
 pub mod UnderWayLemmas
 pub mod MarksLemmas

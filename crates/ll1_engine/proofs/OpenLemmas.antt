@@ -101,7 +101,7 @@ module _ (g : List Row) (good : IsGood g) where
 
   module _ (t : ℕ) (us vs : List ℕ) where
     -- two nodes at one place are by one row
-    same_node : (before : List ℕ) (j : ℕ) (r : Row) (c a : Trees) (k : ℕ) (s : Row) (d b e i : Trees) → Alike g before t us vs (Node j r c a) (Node k s d b) e i → (k ≡ j) × (s ≡ r)
+    pub same_node : (before : List ℕ) (j : ℕ) (r : Row) (c a : Trees) (k : ℕ) (s : Row) (d b e i : Trees) → Alike g before t us vs (Node j r c a) (Node k s d b) e i → (k ≡ j) × (s ≡ r)
     same_node before j r c a k s d b e i m =
         let v = m.valid in
         let w = m.other_valid in

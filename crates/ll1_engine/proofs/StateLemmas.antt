@@ -1,5 +1,5 @@
 -- The state of a parse, and how each step keeps it. The stack holds the symbols that are still to be derived.
-use Rattle.std.proofs.Common.{◌≡◌, ℕ, ◌+◌, ◌<◌, suc, arith, List, [], ◌∷◌, ◌++◌, Option, None, Some, refl, sym, ap, ◌∙◌, subst, inl, inr, append_assoc}
+use Rattle.std.proofs.Common.{◌≡◌, ℕ, ◌+◌, ◌<◌, suc, arith, List, [], ◌∷◌, ◌++◌, Option, None, Some, refl, sym, ap, ◌∙◌, subst, inl, inr, append_assoc, length, length-append, zero-add}
 use Rattle.ll1_engine.specs.declared.grammar.Row.{Row}
 use Rattle.ll1_engine.specs.declared.fault.Break.TheVariants.{Rank}
 use Rattle.ll1_engine.specs.Table.{IsRow, IsToken}
@@ -8,6 +8,8 @@ use Rattle.ll1_engine.specs.Conditions.{IsGood}
 use Rattle.ll1_engine.specs.Prediction.{Predicts}
 use Rattle.ll1_engine.specs.Parse.{first_or, TakesRank, RanksAllow}
 use Rattle.ll1_engine.proofs.TreesLemmas.{beside, roots_beside, leaves_beside, preorder_beside, AreTrees_beside, size, size_beside, RanksAllow_beside, RanksAllow_parts, parts, same_row}
+use Rattle.ll1_engine.proofs.RowsBeforeLemmas.{rows_before_node}
+use Rattle.ll1_engine.specs.Open.{rows_before}
 use Rattle.ll1_engine.proofs.FirstLemmas.{Follows, Follows_start, Follows_row}
 use Rattle.ll1_engine.proofs.MayRankLemmas.{Lacks, lacks_elsewhere, moved}
 use Rattle.ll1_engine.proofs.PredictionLemmas.{Yields, choice_of, TakesRank_predicted}
@@ -45,6 +47,23 @@ abbrev pub behind : List ℕ → List ℕ
 behind [] = []
 behind (x ∷ xs) = xs
 
+-- What is left of a tree of xs, of which so many leaves are taken and begin behind these rows: trees with the roots on the
+-- stack, whose nodes and leaves stand in the tree behind those.
+pub record Left (g : List Row) (stack ts : List ℕ) (tree : Trees) (taken : ℕ) (rows : List ℕ) : Type 0 where
+  pub trees : Trees
+  pub valid : AreTrees g trees
+  pub top : roots trees ≡ stack
+  pub bottom : leaves trees ≡ ts
+  pub ranks : RanksAllow g trees None
+  pub behind_rows : (i : ℕ) → rows_before tree (taken + i) ≡ rows ++ rows_before trees i
+
+-- a whole tree of the tokens that were taken and more
+pub record Whole (g : List Row) (tree : Trees) (ts : List ℕ) : Type 0 where
+  pub valid : AreTrees g tree
+  pub top : roots tree ≡ 0 ∷ []
+  pub bottom : leaves tree ≡ ts
+  pub ranks : RanksAllow g tree None
+
 -- the rest of the tokens comes after the taken ones, the rows are those so far, and the stack is what is to be
 -- derived: what the stack derives completes what was taken, and each derivation that goes on with the token
 -- that stands next, leads through this stack
@@ -53,6 +72,7 @@ pub record State (g : List Row) (taken rest rows stack : List ℕ) : Type 0 wher
   pub grown : (more : List ℕ) → Ranked g stack rest more → Ranked g (0 ∷ []) (taken ++ rest) (rows ++ more)
   pub any : (ts : List ℕ) → first_or ts None ≡ first_or rest None → Spans g (0 ∷ []) (taken ++ ts) → Spans g stack ts
   pub only : (all : List ℕ) → Ranked g (0 ∷ []) (taken ++ rest) all → (more : List ℕ) × Ranked g stack rest more × (all ≡ rows ++ more)
+  pub left : (ts : List ℕ) (tree : Trees) → first_or ts None ≡ first_or rest None → Whole g tree (taken ++ ts) → Left g stack ts tree (length taken) rows
   pub follows : Follows g stack
   pub clean : IsClean g (behind stack)
 
@@ -63,6 +83,7 @@ State_start g tokens =
       grown = λ more h. h;
       any = λ ts e h. h;
       only = λ all h. (all, h, refl);
+      left = λ ts tree e w. record { trees = tree; valid = w.valid; top = w.top; bottom = w.bottom; ranks = w.ranks; behind_rows = λ i. ap (rows_before tree) (zero-add i) };
       follows = Follows_start g;
       clean = λ j s t rest h r e. tt;
     }
@@ -175,6 +196,34 @@ module _ (g : List Row) (good : IsGood g) where
         sym o ∙ (ap (λ (z : ℕ). z ∷ (preorder c ++ preorder f)) same ∙ ap (λ (zs : List ℕ). k ∷ zs) (sym (preorder_beside c f))),
       )
 
+  -- and the nodes below it, and those behind it, begin behind its row
+  below_left : (k : ℕ) (r : Row) (xs ts rows : List ℕ) (tree : Trees) (taken : ℕ) (f : Trees) → IsRow g k r → ((t : ℕ) (us : List ℕ) → ts ≡ t ∷ us → IsToken g t) → Predicts g r.left (first_or ts None) (Some k) → Follows g (r.left ∷ xs)
+      → AreTrees g f → roots f ≡ r.left ∷ xs → leaves f ≡ ts → RanksAllow g f None → ((i : ℕ) → rows_before tree (taken + i) ≡ rows ++ rows_before f i) → Left g (r.right ++ xs) ts tree taken (rows ++ k ∷ [])
+  unfolding Spans_below
+  below_left k r xs ts rows tree taken End h tok p fol v top l ranks b = absurd (cc)
+  below_left k r xs ts rows tree taken (Leaf y f) h tok p fol v top l ranks b =
+      absurd (let same : y ≡ r.left = cc in tok r.left (leaves f) (sym l ∙ ap (λ (z : ℕ). z ∷ leaves f) same) k r h refl)
+  below_left k r xs ts rows tree taken (Node i q c f) h tok p fol v top l ranks b =
+      let left : q.left ≡ r.left = cc in
+      let rest : roots f ≡ xs = cc in
+      let fol' : Follows g (q.left ∷ roots f) = subst (Follows g) (sym top) fol in
+      let p' : Predicts g q.left (first_or ts None) (Some k) = subst (λ (x : ℕ). Predicts g x (first_or ts None) (Some k)) (sym left) p in
+      let same : i ≡ k = elim (choice_of g good i q c f v fol' (Some k) ts tok l p') [
+        | inl same ↦ (cc)
+        | inr y ↦ absurd (y.other.apart (ranks.0 y.j y.s y.token y.rest y.other.row y.other.left y.ranked y.begins (ap (λ (zs : List ℕ). first_or zs None) l ∙ y.stands)))
+      ] in
+      let one : q ≡ r = same_row g k q r (subst (λ (z : ℕ). IsRow g z q) same v.0) h in
+      let s = Spans_below g i q c f xs ts v rest l in
+      record {
+        trees = beside c f;
+        valid = AreTrees_beside g c f v.2 v.3;
+        top = subst (λ (z : Row). roots (beside c f) ≡ z.right ++ xs) one s.top;
+        bottom = s.bottom;
+        ranks = RanksAllow_beside g c f None ranks.1 ranks.2;
+        behind_rows = λ j. b j ∙ (ap (λ (zs : List ℕ). rows ++ zs) (rows_before_node i q c f j)
+            ∙ (ap (λ (z : ℕ). rows ++ z ∷ rows_before (beside c f) j) same ∙ sym (append_assoc rows (k ∷ []) (rows_before (beside c f) j))));
+      }
+
   Lacks_append : (t : ℕ) (xs ys : List ℕ) → Lacks t xs → Lacks t ys → Lacks t (xs ++ ys)
   Lacks_append t [] ys a b = b
   Lacks_append t (x ∷ xs) ys a b = (a.0, Lacks_append t xs ys a.1 b)
@@ -199,6 +248,8 @@ module _ (g : List Row) (good : IsGood g) where
         any = λ ts e s. let q = st.any ts e s in below_choice k r xs ts q.trees h (λ t us i. token_first ts t us e i) (subst (λ (z : Option ℕ). Predicts g r.left z (Some k)) (sym e) p) st.follows st.clean q.valid q.top q.bottom;
         only = λ all s. let q = st.only all s in let b = below_ranked k r xs rest q.0 q.1.trees h tok p st.follows q.1.valid q.1.top q.1.bottom q.1.order q.1.ranks in
             (b.0, b.1, q.2 ∙ (ap (λ (zs : List ℕ). rows ++ zs) b.2 ∙ sym (append_assoc rows (k ∷ []) b.0)));
+        left = λ ts tree e w. let q = st.left ts tree e w in
+            below_left k r xs ts rows tree (length taken) q.trees h (λ t us i. token_first ts t us e i) (subst (λ (z : Option ℕ). Predicts g r.left z (Some k)) (sym e) p) st.follows q.valid q.top q.bottom q.ranks q.behind_rows;
         follows = Follows_row g k r [] r.right xs h refl st.follows;
         clean = λ j s t more hj ranked begins. clean_row j k s r t more r.right xs hj ranked begins h refl (st.clean j s t more hj ranked begins);
       }
@@ -240,6 +291,15 @@ Ranked_token g t xs u ts rows h s = from s.trees s.valid s.top s.bottom s.order 
     from (Leaf y f) v top l o r = (cc, record { trees = f; valid = v; top = cc; bottom = cc; order = o; ranks = r })
     from (Node k q c f) v top l o r = absurd (h k q v.0 (cc))
 
+pub Left_token : (g : List Row) (t : ℕ) (xs ts : List ℕ) (tree : Trees) (taken next : ℕ) (rows : List ℕ) → IsToken g t → next ≡ taken + 1 → Left g (t ∷ xs) (t ∷ ts) tree taken rows → Left g xs ts tree next rows
+Left_token g t xs ts tree taken next rows h n s = from s.trees s.valid s.top s.bottom s.ranks s.behind_rows
+  where
+    from : (f : Trees) → AreTrees g f → roots f ≡ t ∷ xs → leaves f ≡ t ∷ ts → RanksAllow g f None → ((i : ℕ) → rows_before tree (taken + i) ≡ rows ++ rows_before f i) → Left g xs ts tree next rows
+    from End v top l r b = absurd (cc)
+    from (Leaf y f) v top l r b =
+        record { trees = f; valid = v; top = cc; bottom = cc; ranks = r; behind_rows = λ i. ap (rows_before tree) (let e : next + i ≡ taken + suc i = omega arith in e) ∙ b (suc i) }
+    from (Node k q c f) v top l r b = absurd (h k q v.0 (cc))
+
 pub Spans_token : (g : List Row) (t : ℕ) (xs ts : List ℕ) → IsToken g t → Spans g (t ∷ xs) ts → (us : List ℕ) × (ts ≡ t ∷ us) × Spans g xs us
 Spans_token g t xs ts h s = from s.trees s.valid s.top s.bottom
   where
@@ -258,6 +318,8 @@ State_take g taken rest rows xs t h st =
           subst (Spans g xs) (let i : t ∷ ts ≡ t ∷ q.0 = q.1 in cc) q.2);
       only = λ all s. (let q = st.only all (subst (λ (zs : List ℕ). Ranked g (0 ∷ []) zs all) (append_assoc taken (t ∷ []) rest) s) in
           (q.0, (Ranked_token g t xs t rest q.0 h q.1).1, q.2));
+      left = λ ts tree e w. Left_token g t xs ts tree (length taken) (length (taken ++ t ∷ [])) rows h (length-append taken (t ∷ []))
+          (st.left (t ∷ ts) tree refl (subst (Whole g tree) (append_assoc taken (t ∷ []) ts) w));
       follows = st.follows.1;
       clean = λ j s u more i ranked begins. lacks_tail u xs (st.clean j s u more i ranked begins);
     }

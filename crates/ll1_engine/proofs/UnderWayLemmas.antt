@@ -1,13 +1,18 @@
 -- The loop of the parser, over plain lists: the start, each step, each stop and the end.
-use Rattle.std.proofs.Common.{◌≡◌, ℕ, ◌+◌, ◌<◌, ◌≤◌, List, [], ◌∷◌, ◌++◌, length, take, drop, get_or, Option, None, Some, Result, Ok, Err, Bool, true, sym, ap, ◌∙◌, subst, inl, inr, arith}
-use Rattle.std.proofs.lemmas.List.{take-append-drop, length-take-le, take_more, drop_more, drop_all, take_all}
+use Rattle.std.proofs.Common.{◌≡◌, ℕ, ◌+◌, ◌<◌, ◌≤◌, List, [], ◌∷◌, ◌++◌, length, take, drop, get_or, Option, None, Some, Result, Ok, Err, Bool, true, refl, sym, ap, ◌∙◌, subst, inl, inr, append_assoc, arith}
+use Rattle.std.proofs.lemmas.List.{append-nil, take-append-drop, length-take-le, take_more, drop_more, drop_all, take_all}
 use Rattle.std.specs.Prelude.{OnOk, is_ok}
 use Rattle.std.specs.List.{AllByRecursion}
 use Rattle.ll1_engine.specs.declared.grammar.Row.{Row}
+use Rattle.ll1_engine.specs.declared.fault.Stop.{Stop}
+use Rattle.ll1_engine.specs.declared.fault.ParseFault.{ParseFault}
+use Rattle.ll1_engine.specs.declared.fault.ParseFault.TheVariants.{Stop as Stopped}
 use Rattle.ll1_engine.specs.Table.{IsRow, IsToken, FitsIn}
 use Rattle.ll1_engine.specs.Conditions.{IsGood}
 use Rattle.ll1_engine.specs.Prediction.{Predicts}
-use Rattle.ll1_engine.specs.Parse.{first_or, IsTreeOf, StopsAt}
+use Rattle.ll1_engine.specs.Trees.{Trees, End, Leaf, Node, roots, leaves, AreTrees}
+use Rattle.ll1_engine.specs.Parse.{first_or, IsTreeOf, IsAllowedTree, StopsAt}
+use Rattle.ll1_engine.specs.Open.{rows_before, TellTrees}
 use Rattle.ll1_engine.proofs.StateLemmas.{Spans, State, State_start, State_expand, State_take, Spans_token, stuck_choice}
 use Rattle.ll1_engine.proofs.FirstLemmas.{AreTokens}
 use Rattle.ll1_engine.proofs.StopsAtLemmas.{tree_found, tree_only, stopped}
@@ -17,6 +22,7 @@ pub record IsUnderWay (symbols : ℕ) (g : List Row) (tokens : List ℕ) (place 
   pub within : place ≤ length tokens
   pub below : AllByRecursion (λ y. y < symbols) stack
   pub state : State g (take place tokens) (drop place tokens) rows stack
+  pub told : TellTrees g rows tokens place
 
 -- what the parser asks of its tokens
 abbrev pub Known : ℕ → List Row → List ℕ → Type 0
@@ -43,6 +49,14 @@ pub ok_gives : {T E : Type 0} (r : Result T E) (P : Type 0) → true ≡ is_ok r
 ok_gives (Ok x) P e h = h
 ok_gives (Err d) P e h = absurd (cc)
 
+-- what holds of the stop that is answered
+pub of_stop : {T : Type 0} (P : Stop → Type 0) (place : ℕ) (rows : List ℕ) (fault : ParseFault) (stop : Stop) → fault ≡ Stopped (record { at = place; rows = rows }) → ◌≡◌ {A = Result T ParseFault} (Err fault) (Err (Stopped stop))
+    → P (record { at = place; rows = rows }) → P stop
+of_stop {T} P place rows fault stop e f p = subst P (same (record { at = place; rows = rows }) e) p
+  where
+    same : (s : Stop) → fault ≡ Stopped s → s ≡ stop
+    same s e = cc
+
 -- the predicted row is a row of the symbol
 pub predicted : (g : List Row) (x : ℕ) (next : Option ℕ) (k : ℕ) → Predicts g x next (Some k) → (r : Row) × IsRow g k r × (r.left ≡ x)
 predicted g x None k p = (p.0, p.1, p.2)
@@ -56,7 +70,7 @@ some_first (x ∷ ts) t e = let same : x ≡ t = cc in (ts, ap (λ (z : ℕ). z 
 module _ (n rows_count : ℕ) (g : List Row) (good : IsGood g) (fits : FitsIn n rows_count g) (tokens : List ℕ) (known : Known n g tokens) where
   pub under_way_start : (stack : List ℕ) → stack ≡ 0 ∷ [] → IsUnderWay n g tokens 0 [] stack
   under_way_start stack e =
-      subst (IsUnderWay n g tokens 0 []) (sym e) (record { within = omega arith; below = (fits.start, tt); state = State_start g tokens })
+      subst (IsUnderWay n g tokens 0 []) (sym e) (record { within = omega arith; below = (fits.start, tt); state = State_start g tokens; told = λ tree rest last a e. absurd (omega (arith, e)) })
 
   module _ (place : ℕ) (rows stack : List ℕ) (w : IsUnderWay n g tokens place rows stack) where
     whole : tokens ≡ take place tokens ++ drop place tokens
@@ -92,10 +106,10 @@ module _ (n rows_count : ℕ) (g : List Row) (good : IsGood g) (fits : FitsIn n 
         left_over [] (u ∷ us) l f s = (cc)
         left_over (t ∷ ts) (u ∷ us) l f s = rootless s.trees s.top s.bottom
           where
-            rootless : (h : Rattle.ll1_engine.specs.Trees.Trees) → Rattle.ll1_engine.specs.Trees.roots h ≡ [] → Rattle.ll1_engine.specs.Trees.leaves h ≡ t ∷ ts → ⊥
-            rootless Rattle.ll1_engine.specs.Trees.End a b = cc
-            rootless (Rattle.ll1_engine.specs.Trees.Leaf y h) a b = cc
-            rootless (Rattle.ll1_engine.specs.Trees.Node k r c h) a b = cc
+            rootless : (h : Trees) → roots h ≡ [] → leaves h ≡ t ∷ ts → ⊥
+            rootless End a b = cc
+            rootless (Leaf y h) a b = cc
+            rootless (Node k r c h) a b = cc
 
     -- the token on the stack stands next
     pub under_way_token : (x : ℕ) (xs : List ℕ) → stack ≡ x ∷ xs → IsToken g x → first_or (drop place tokens) None ≡ Some x → IsUnderWay n g tokens (place + 1) rows xs
@@ -113,8 +127,25 @@ module _ (n rows_count : ℕ) (g : List Row) (good : IsGood g) (fits : FitsIn n 
           within = omega arith;
           below = b.1;
           state = subst (λ (zs : List ℕ). State g zs (drop (place + 1) tokens) rows xs) (sym front) (State_take g (take place tokens) (drop (place + 1) tokens) rows xs x tok st);
+          told = λ tree rest last a e. told_by_taking xs tok front st tree rest last a (omega (arith, e));
         }
       where
+        -- the node of the token on the stack begins behind all of the rows
+        told_by_taking : (ys : List ℕ) → IsToken g x → take (place + 1) tokens ≡ take place tokens ++ x ∷ [] → State g (take place tokens) (x ∷ drop (place + 1) tokens) rows (x ∷ ys)
+            → (tree : Trees) (rest : List ℕ) (last : ℕ) → IsAllowedTree g tree (take (place + 1) tokens ++ rest) → last ≡ place → (more : List ℕ) × (rows ≡ rows_before tree last ++ more)
+        told_by_taking ys tok front st tree rest last a e =
+            let leaves_are : leaves tree ≡ take place tokens ++ x ∷ rest = a.bottom ∙ (ap (λ (zs : List ℕ). zs ++ rest) front ∙ append_assoc (take place tokens) (x ∷ []) rest) in
+            let q = st.left (x ∷ rest) tree refl (record { valid = a.valid; top = a.top; bottom = leaves_are; ranks = a.ranks }) in
+            let b : rows_before tree (length (take place tokens) + 0) ≡ rows = q.behind_rows 0 ∙ (ap (λ (zs : List ℕ). rows ++ zs) (token_first q.trees q.valid q.top tok) ∙ append-nil rows) in
+            let n : length (take place tokens) ≡ place = length-take-le place tokens w.within in
+            let m : length (take place tokens) + 0 ≡ last = omega arith in
+            ([], sym b ∙ (ap (rows_before tree) m ∙ sym (append-nil (rows_before tree last))))
+          where
+            token_first : (f : Trees) → AreTrees g f → roots f ≡ x ∷ ys → IsToken g x → rows_before f 0 ≡ []
+            token_first End v top t = absurd (cc)
+            token_first (Leaf y f) v top t = refl
+            token_first (Node k r c f) v top t = absurd (t k r v.0 (cc))
+
         within_of : (us : List ℕ) → drop place tokens ≡ x ∷ us → place < length tokens
         within_of us i = elim (Rattle.std.proofs.lemmas.Bool.cases_lt place (length tokens)) [
           | inl lt ↦ lt
@@ -132,6 +163,8 @@ module _ (n rows_count : ℕ) (g : List Row) (good : IsGood g) (fits : FitsIn n 
         subst (IsUnderWay n g tokens place (rows ++ k ∷ [])) (sym e') (record {
           within = w.within;
           below = below_append n r.right xs (fits.below k r h).right b.1;
+          told = λ tree rest last a i. (let m = w.told tree rest last a i in
+              (m.0 ++ k ∷ [], ap (λ (zs : List ℕ). zs ++ k ∷ []) m.1 ∙ append_assoc (rows_before tree last) m.0 (k ∷ [])));
           state = State_expand g good (take place tokens) (drop place tokens) rows xs k r h (λ t us i. (next_below t us i).1) (subst (λ (z : ℕ). Predicts g z (first_or (drop place tokens) None) (Some k)) (sym left) p) st;
         })
 

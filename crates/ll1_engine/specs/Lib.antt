@@ -1,9 +1,9 @@
 pub mod Table
 pub mod Trees
-pub mod Open
 pub mod First
 pub mod Conditions
 pub mod Parse
+pub mod Open
 pub mod Prediction
 pub mod Marks
 pub mod Closed

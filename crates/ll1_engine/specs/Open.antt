@@ -1,7 +1,9 @@
--- The nodes of a tree that are open around a leaf.
-use Rattle.std.specs.Prelude.{ℕ, ◌-◌, List, [], ◌∷◌, length, nat_lt, if◌then◌else◌}
+-- The nodes of a tree that are open around a leaf, and those that begin before it.
+use Rattle.std.specs.Prelude.{◌≡◌, ℕ, ◌-◌, List, [], ◌∷◌, ◌++◌, length, take, nat_lt, if◌then◌else◌}
 use Prim.Native.Nat.{zero, suc}
-use Rattle.ll1_engine.specs.Trees.{Trees, End, Leaf, Node, leaves}
+use Rattle.ll1_engine.specs.declared.grammar.Row.{Row}
+use Rattle.ll1_engine.specs.Trees.{Trees, End, Leaf, Node, leaves, preorder}
+use Rattle.ll1_engine.specs.Parse.{IsAllowedTree}
 
 -- a node by this row, in which the symbol at this place of the right side holds the leaf
 pub record OpenNode : Type 0 where
@@ -24,3 +26,19 @@ open_around (Leaf x after) (suc i) = open_around after i
 open_around (Node k r below after) i =
     if nat_lt i (length (leaves below)) then record { row = k; place = holder below i } ∷ open_around below i
     else open_around after (i - length (leaves below))
+
+-- the rows of the nodes that begin before leaf i, each before those below it
+abbrev pub rows_before : Trees → ℕ → List ℕ
+rows_before End i = []
+rows_before (Leaf x after) zero = []
+rows_before (Leaf x after) (suc i) = rows_before after i
+rows_before (Node k r below after) i =
+    k ∷ (if nat_lt i (length (leaves below)) then rows_before below i
+    else (preorder below ++ rows_before after (i - length (leaves below))))
+
+-- In each tree that the ranks allow of a list that begins with so many of the tokens, the nodes that begin before the last of
+-- these have the rows with which these rows begin.
+abbrev pub TellTrees : List Row → List ℕ → List ℕ → ℕ → Type 0
+TellTrees g rows tokens place =
+    (tree : Trees) (rest : List ℕ) (last : ℕ) → IsAllowedTree g tree (take place tokens ++ rest) → place ≡ suc last →
+    (more : List ℕ) × (rows ≡ rows_before tree last ++ more)

@@ -1,5 +1,6 @@
 //! What a table breaks, where tokens stop, and want of memory beside both.
 
+use crate::parser::Tree;
 use std::alloc::AllocError;
 use thiserror::Error;
 
@@ -35,10 +36,12 @@ pub enum CheckFault {
     Memory(AllocError),
 }
 
-/// Where a parse stops: behind the longest prefix of the tokens that some list with a tree begins with.
-#[derive(Clone, Copy, Debug, PartialEq, Eq)]
+/// Where a parse stops: behind the longest prefix of the tokens that some list with a tree begins with. The rows are those
+/// taken by then.
+#[derive(Debug, Drop)]
 pub struct Stop {
     pub at: usize,
+    pub rows: Tree,
 }
 
 /// Why `parse` gives no tree.

@@ -47,3 +47,9 @@ pub fn open_nodes_are_determined()
         IsAllowedTree g tree (before ++ t ∷ after) → IsAllowedTree g other (before ++ t ∷ more) →
         open_around tree (length before) ≡ open_around other (length before) }
 {}
+
+/// In a good table a list of tokens has at most one tree that the ranks allow.
+pub fn tokens_have_one_tree()
+    ensures { (g : List Row) (tokens : List ℕ) (tree other : Trees) → IsGood g →
+        IsAllowedTree g tree tokens → IsAllowedTree g other tokens → other ≡ tree }
+{}

@@ -7,8 +7,8 @@
 //!
 //! The module `laws` says what holds of every table and of every good one. A proof takes the lemmas from `proofs/`:
 //! `ClosedLemmas` and `ProductiveLemmas` (with which a table can be shown to be good), `HasTreeLemmas` (what is derived
-//! has an allowed tree), `OpenLemmas` (what is open around a token is determined by the tokens up to it), and
-//! `TreesLemmas` (trees side by side).
+//! has an allowed tree), `OneTreeLemmas` (and only one), `OpenLemmas` (what is open around a token is determined by the
+//! tokens up to it), `RowsBeforeLemmas` (which rows begin before a token), and `TreesLemmas` (trees side by side).
 #![tactic(auto)]
 
 mod analysis;

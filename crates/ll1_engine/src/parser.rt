@@ -5,6 +5,7 @@ ghost use Rattle.std.specs.List.{AllByRecursion};
 ghost use Rattle.ll1_engine.specs.declared.fault.Stop.{Stop};
 ghost use Rattle.ll1_engine.specs.Table.{IsToken};
 ghost use Rattle.ll1_engine.specs.Parse.{first_or, IsTreeOf, StopsAt};
+ghost use Rattle.ll1_engine.specs.Open.{TellTrees};
 
 use crate::checked::Checked;
 use crate::fault::{ParseFault, Stop};
@@ -72,6 +73,16 @@ fn stands(next: Option<Token>, symbol: Symbol) -> bool
     }
 }
 
+/// The fault of a parse that stops there, with the rows that it took.
+fn stop(at: usize, rows: Vec<usize>) -> ParseFault
+    ensures { result ≡ ParseFault.Stop (record { at = at; rows = rows.items }) }
+{
+    ParseFault::Stop(Stop {
+        at,
+        rows: Tree::from_vec(rows),
+    })
+}
+
 /// The tree of the tokens from the start symbol, or the place where they stop.
 pub fn parse<const S: usize, const R: usize>(
     alloc: Global,
@@ -84,6 +95,8 @@ pub fn parse<const S: usize, const R: usize>(
         (λ tree. (other : List ℕ) → IsTreeOf checked.now other tokens.now → other ≡ tree) }
     ensures stop { (stop : Stop) → result ≡ Err (ParseFault.Stop stop) →
         StopsAt checked.now tokens.now stop.at }
+    ensures begun { (stop : Stop) → result ≡ Err (ParseFault.Stop stop) →
+        TellTrees checked.now stop.rows tokens.now stop.at }
 {
     let table = checked.rows();
     let mut stack = Stack::new(alloc);
@@ -94,21 +107,21 @@ pub fn parse<const S: usize, const R: usize>(
         let next = token_at(tokens, at);
         if checked.is_token(symbol) {
             if !stands(next, symbol) {
-                return Err(ParseFault::Stop(Stop { at }));
+                return Err(stop(at, rows));
             }
             at += 1;
             continue;
         }
         let Some(row) = checked.predict(symbol, next) else {
-            return Err(ParseFault::Stop(Stop { at }));
+            return Err(stop(at, rows));
         };
         rows.push(row).map_err(|_| ParseFault::Memory(AllocError))?;
         let right = table[row].right.as_slice();
         stack.push_all(right).map_err(ParseFault::Memory)?;
     }
     if at < tokens.len() {
-        let left_over = Stop { at };
-        return Err(ParseFault::Stop(left_over));
+        let left_over = stop(at, rows);
+        return Err(left_over);
     }
     Ok(Tree::from_vec(rows))
 }

@@ -6,7 +6,8 @@ use Rattle.ll1_engine.specs.declared.fault.Stop.{Stop}
 use Rattle.ll1_engine.specs.declared.grammar.Row.{Row}
 use Rattle.ll1_engine.specs.Prediction.{Predicts}
 use Rattle.ll1_engine.specs.Parse.{first_or, IsTreeOf, StopsAt}
-use Rattle.ll1_engine.proofs.UnderWayLemmas.{IsUnderWay, ok_gives, predicted, under_way_start, under_way_token, under_way_row, stop_at_token, stop_at_symbol, stop_at_end, tree_at_end, only_at_end}
+use Rattle.ll1_engine.specs.Open.{TellTrees}
+use Rattle.ll1_engine.proofs.UnderWayLemmas.{IsUnderWay, ok_gives, of_stop, predicted, under_way_start, under_way_token, under_way_row, stop_at_token, stop_at_symbol, stop_at_end, tree_at_end, only_at_end}
 use Rattle.ll1_engine.proofs.parser.parse.Goals as goal
 
 pub loop-symbol-init : goal.loop-symbol-init
@@ -16,10 +17,14 @@ loop-symbol-init g c =
     (under_way_start g.row.S g.row.R c.args.checked.now c.rows-table.ensures.good c.rows-table.ensures.fits c.args.tokens.now c.requires c.push_all.new.self
     (e ∙ ap (λ (zs : List ℕ). 0 ∷ zs) c.new-stack.ensures))
 
+pub returns-then-not-stands-clause-begun : goal.returns-then-not-stands-clause-begun
+returns-then-not-stands-clause-begun g c = λ stop h.
+    of_stop (λ (s : Stop). TellTrees c.args.checked.now s.rows c.args.tokens.now s.at) c.loop-symbol.at c.loop-symbol.rows.items c.stop.result stop c.stop.ensures h
+    c.loop-symbol.invariant.told
+
 pub returns-then-not-stands-clause-stop : goal.returns-then-not-stands-clause-stop
 returns-then-not-stands-clause-stop g c = λ stop h.
-    let e : ◌≡◌ {A = Stop} (record { at = c.loop-symbol.at }) stop = cc in
-    subst (StopsAt c.args.checked.now c.args.tokens.now) (ap (λ (s : Stop). s.at) e)
+    of_stop (λ (s : Stop). StopsAt c.args.checked.now c.args.tokens.now s.at) c.loop-symbol.at c.loop-symbol.rows.items c.stop.result stop c.stop.ensures h
     (stop_at_token g.row.S g.row.R c.args.checked.now c.rows-table.ensures.good c.rows-table.ensures.fits c.args.tokens.now c.requires
     c.loop-symbol.at c.loop-symbol.rows.items c.loop-symbol.stack c.loop-symbol.invariant c.in-Some.symbol c.pop.new.self c.in-Some.ensures
     (c.is_token.ensures.0 c.if-is_token.true)
@@ -31,10 +36,14 @@ loop-symbol-preserved-then-is_token g c =
     c.loop-symbol.at c.loop-symbol.rows.items c.loop-symbol.stack c.loop-symbol.invariant c.in-Some.symbol c.pop.new.self c.in-Some.ensures
     (c.is_token.ensures.0 c.if-is_token.true) (sym c.token_at-next.ensures ∙ c.stands.ensures.0 c.if-not-stands.false)
 
+pub returns-in_default-predict-clause-begun : goal.returns-in_default-predict-clause-begun
+returns-in_default-predict-clause-begun g c = λ stop h.
+    of_stop (λ (s : Stop). TellTrees c.args.checked.now s.rows c.args.tokens.now s.at) c.loop-symbol.at c.loop-symbol.rows.items c.stop-in_default-predict.result stop c.stop-in_default-predict.ensures h
+    c.loop-symbol.invariant.told
+
 pub returns-in_default-predict-clause-stop : goal.returns-in_default-predict-clause-stop
 returns-in_default-predict-clause-stop g c = λ stop h.
-    let e : ◌≡◌ {A = Stop} (record { at = c.loop-symbol.at }) stop = cc in
-    subst (StopsAt c.args.checked.now c.args.tokens.now) (ap (λ (s : Stop). s.at) e)
+    of_stop (λ (s : Stop). StopsAt c.args.checked.now c.args.tokens.now s.at) c.loop-symbol.at c.loop-symbol.rows.items c.stop-in_default-predict.result stop c.stop-in_default-predict.ensures h
     (stop_at_symbol g.row.S g.row.R c.args.checked.now c.rows-table.ensures.good c.rows-table.ensures.fits c.args.tokens.now c.requires
     c.loop-symbol.at c.loop-symbol.rows.items c.loop-symbol.stack c.loop-symbol.invariant c.in-Some.symbol c.pop.new.self c.in-Some.ensures
     (λ t. false≢true (sym c.if-is_token.false ∙ c.is_token.ensures.1 t))
@@ -55,10 +64,14 @@ loop-symbol-preserved g c =
     c.loop-symbol.at c.loop-symbol.rows.items c.loop-symbol.stack c.loop-symbol.invariant c.in-Some.symbol c.pop.new.self c.in-Some-predict.row q.0 c.in-Some.ensures n q.1
     c.push_all-in-Some.new.self (pushed ∙ ap (λ (zs : List ℕ). zs ++ c.pop.new.self) right))
 
+pub returns-then-at-tokens-clause-begun : goal.returns-then-at-tokens-clause-begun
+returns-then-at-tokens-clause-begun g c = λ stop h.
+    of_stop (λ (s : Stop). TellTrees c.args.checked.now s.rows c.args.tokens.now s.at) c.loop-symbol.at c.loop-symbol.rows.items c.stop-left_over.result stop c.stop-left_over.ensures h
+    c.loop-symbol.invariant.told
+
 pub returns-then-at-tokens-clause-stop : goal.returns-then-at-tokens-clause-stop
 returns-then-at-tokens-clause-stop g c = λ stop h.
-    let e : ◌≡◌ {A = Stop} (record { at = c.loop-symbol.at }) stop = cc in
-    subst (StopsAt c.args.checked.now c.args.tokens.now) (ap (λ (s : Stop). s.at) e)
+    of_stop (λ (s : Stop). StopsAt c.args.checked.now c.args.tokens.now s.at) c.loop-symbol.at c.loop-symbol.rows.items c.stop-left_over.result stop c.stop-left_over.ensures h
     (stop_at_end g.row.S g.row.R c.args.checked.now c.rows-table.ensures.good c.rows-table.ensures.fits c.args.tokens.now c.requires
     c.loop-symbol.at c.loop-symbol.rows.items c.loop-symbol.stack c.loop-symbol.invariant c.in_default.ensures c.if-at-tokens.true)
 
