@@ -1,8 +1,10 @@
 #!/bin/bash
 # Times the checker beside a C program that accepts the same logs by two watched literals and keeps nothing between
 # propagations, in processor time and in one run. It prints the ratio of each log, and fails where a cube costs more than
-# 3 times C's, where after 1,900 lines the ratio is more than 1.5 times that at the start, or where accepting a log takes
-# longer than making it took. It builds a scratch program over a copy of the crates, so it needs the kit on the PATH.
+# 3 times C's, where after 1,900 lines the ratio is more than 1.5 times that at the start, where accepting a log takes
+# longer than making it took, or where a ternary clause takes more than 64 bytes beside the caller's copy: once with few
+# variables, so that it is the clause's own, and once with as many as random formulas near the threshold have, whose
+# tables then count too. It builds a scratch program over a copy of the crates, so it needs the kit on the PATH.
 # Usage: bench/propagation.sh CPROGRAMS [FOLDER]
 #   CPROGRAMS: the folder with make_log.c, accept.c, sat.h and later.py   FOLDER: default a new one, removed afterwards
 set -euo pipefail
@@ -69,4 +71,11 @@ late=$(ratio "$(lines_seconds late.log)" "$(c_seconds late.log)")
 limit "rand: 100 cubes at the start beside C" "$early" 3
 limit "rand: 100 cubes after 1,900 beside C" "$late" 3
 limit "rand: after 1,900 cubes beside the start" "$(ratio "$late" "$early")" 1.5
+# memory NAME VARIABLES CLAUSES
+memory() {
+  make "$1" rand "$2" "$3" 0 0 2> /dev/null
+  limit "$1: bytes a ternary clause" "$(on "$1.log" | sed -n 's/^[0-9]* clauses, \([0-9]*\) bytes each$/\1/p')" 64
+}
+memory few 2000 850000
+memory threshold 200000 850000
 exit $worse

@@ -1,6 +1,6 @@
 //! The lists of clauses by their watched literals, and the room in them.
 
-ghost use Rattle.std.specs.Prelude.{◌≡◌, ◌<◌, ◌≤◌, ℕ, All, OnOk, length, slice_index_or};
+ghost use Rattle.std.specs.Prelude.{◌≡◌, ◌<◌, ◌≤◌, ℕ, All, OnOk, length, slice_index_or, vec_capacity};
 ghost use Rattle.unit_propagation.specs.Watching.{code_of, appended, items_of, rooms_of};
 ghost use Rattle.unit_propagation.specs.Watching.{AtMost, Fits, Grows, HasLess, HasRoom};
 ghost use Rattle.unit_propagation.specs.Watching.{ListsClause, ListsRoom, SameLists};
@@ -79,10 +79,22 @@ fn make_room_at(
     let Some(wanted) = held[at].checked_add(1) else {
         return Err(AllocError);
     };
-    let list = &mut lists[at];
-    list.reserve(wanted.saturating_sub(list.len()))?;
+    reserve_for(&mut lists[at], wanted)?;
     held[at] = wanted;
     Ok(())
+}
+
+/// Makes room for so many clauses. A list that has to grow gets a quarter more, since most lists stay as they are.
+fn reserve_for(list: &mut Vec<u32>, wanted: usize) -> Result<(), AllocError>
+    ensures items { list.new.items ≡ list.old.items }
+    ensures capacity { vec_capacity list.old ≤ vec_capacity list.new }
+    ensures room { OnOk result (wanted ≤ vec_capacity list.new) }
+{
+    if wanted <= list.capacity() {
+        return Ok(());
+    }
+    let room = wanted.saturating_add(wanted / 4);
+    list.reserve_exact(room.saturating_sub(list.len()))
 }
 
 /// Puts the clause at the end of the lists of its watched literals, which have room.

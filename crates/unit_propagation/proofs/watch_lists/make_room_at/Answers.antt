@@ -22,28 +22,28 @@ more_room lists k old new inside at more i =
     let same = ap (λ (xs : List ℕ). get_or xs i 0) (map-set f lists k new) in
     omega arith
 
-pub returns-in_err-reserve-clause-lists : goal.returns-in_err-reserve-clause-lists
-returns-in_err-reserve-clause-lists c =
-    same_lists c.args.lists.now.items c.args.at c.index_mut-list.result.now c.reserve.new.self c.requires.lists c.index_mut-list.ensures.value c.in_err-reserve.ensures.items
+pub returns-in_err-reserve_for-clause-lists : goal.returns-in_err-reserve_for-clause-lists
+returns-in_err-reserve_for-clause-lists c =
+    same_lists c.args.lists.now.items c.args.at c.index_mut.result.now c.reserve_for.new.list c.requires.lists c.index_mut.ensures.value c.in_err-reserve_for.ensures.items
 
-pub returns-in_err-reserve-clause-room : goal.returns-in_err-reserve-clause-room
-returns-in_err-reserve-clause-room c = λ i.
+pub returns-in_err-reserve_for-clause-room : goal.returns-in_err-reserve_for-clause-room
+returns-in_err-reserve_for-clause-room c = λ i.
     let before = c.requires.room i in
-    let more = more_room c.args.lists.now.items c.args.at c.index_mut-list.result.now c.reserve.new.self c.requires.lists c.index_mut-list.ensures.value c.in_err-reserve.ensures.capacity i in
+    let more = more_room c.args.lists.now.items c.args.at c.index_mut.result.now c.reserve_for.new.list c.requires.lists c.index_mut.ensures.value c.in_err-reserve_for.ensures.capacity i in
     omega arith
 
 pub returns-clause-lists : goal.returns-clause-lists
 returns-clause-lists c =
-    same_lists c.args.lists.now.items c.args.at c.index_mut-list.result.now c.reserve.new.self c.requires.lists c.index_mut-list.ensures.value c.in_ok-reserve.ensures.items
+    same_lists c.args.lists.now.items c.args.at c.index_mut.result.now c.reserve_for.new.list c.requires.lists c.index_mut.ensures.value c.in_ok-reserve_for.ensures.items
 
 pub returns-clause-room : goal.returns-clause-room
 returns-clause-room c = λ i.
     let held = c.args.held.now.items in
     let lists = c.args.lists.now.items in
     let f = λ (v : Vec ℕ Global). vec_capacity v in
-    let new = c.reserve.new.self in
+    let new = c.reserve_for.new.list in
     let before = c.requires.room i in
-    let more = more_room lists c.args.at c.index_mut-list.result.now new c.requires.lists c.index_mut-list.ensures.value c.in_ok-reserve.ensures.capacity i in
+    let more = more_room lists c.args.at c.index_mut.result.now new c.requires.lists c.index_mut.ensures.value c.in_ok-reserve_for.ensures.capacity i in
     elim (cases_eq i c.args.at) [
       | inl same ↦
           let here : get_or (set held c.args.at c.in-Some.wanted) i 0 ≡ c.in-Some.wanted =
@@ -52,7 +52,7 @@ returns-clause-room c = λ i.
           let there : get_or (map f (set lists c.args.at new)) i 0 ≡ vec_capacity new =
           ap (λ (xs : List ℕ). get_or xs i 0) (map-set f lists c.args.at new) ∙ ap (λ (j : ℕ). get_or (set (map f lists) c.args.at (vec_capacity new)) j 0) same
           ∙ get_or-set_same (map f lists) c.args.at (vec_capacity new) 0 (omega (arith, c.requires.lists)) in
-          omega (arith, here, there, c.in_ok-reserve.ensures.ok, c.in_ok-reserve.ensures.len, c.saturating_sub.ensures, c.len.ensures)
+          omega (arith, here, there, c.in_ok-reserve_for.ensures.room)
       | inr other ↦
           let same = get_or-set_other held c.args.at i c.in-Some.wanted 0 other in
           omega arith
