@@ -1,6 +1,6 @@
 -- The variables of a term: they are compared as they are, kept apart and in order, and are what the marked terms name.
 use Rattle.std.proofs.Common.{rules, ◌≡◌, ◌≢◌, ℕ, suc, zero, ◌+◌, ◌-◌, ◌<◌, ◌⊎◌, inl, inr, Bool, true, false, List, [], ◌∷◌, ◌++◌, Some, length, slice_get, get_or, nat_eq, refl, sym, ap, ◌∙◌, subst, true≢false, arith}
-use Rattle.std.specs.Prelude.{◌||◌, if◌then◌else◌, position}
+use Rattle.std.specs.Prelude.{◌↔◌, ◌||◌, if◌then◌else◌, IsTrue, position}
 use Rattle.std.specs.List.{AllPairs, Contains, list_any, IsDistinct}
 use Rattle.std.specs.List.Sorted.{IsPermutation, IsSorted}
 use Rattle.std.specs.Ordering.{is_lt, nat_cmp, ordering_then, MatchOrdering}
@@ -14,7 +14,7 @@ use Rattle.std.proofs.lemmas.List.Sorted.{IsPermutation-sym, Contains-permutatio
 use Rattle.std.proofs.lemmas.Map.Keys.{apart_from_distinct}
 use Rattle.std.proofs.lemmas.Option.{slice_get_within, slice_get-get_or}
 use Rattle.indexmap.specs.IndexSet.{insert_key}
-use Rattle.indexmap.proofs.CallerLemmas.{Contains-insert_key}
+use Rattle.indexmap.proofs.CallerLemmas.{Contains-insert_key, Contains-list_any}
 use Rattle.cnf_core.specs.declared.derivation.Var.{Var}
 use Rattle.cnf_core.specs.declared.derivation.Var.TheVariants.{Input, Read}
 use Rattle.cnf_core.specs.contracts.derivation.VarPartialEq.TheImpl.{eq-value}
@@ -218,7 +218,7 @@ module _ (old middle new : List Var) (first place : ℕ) where
 
 -- ---- the bits of the marked nodes
 
-names_mention : (nodes : List Node) (t : Term) (node : Node) (v : Var) → Names node v → IsPartOf nodes node t → Mentions nodes t v
+pub names_mention : (nodes : List Node) (t : Term) (node : Node) (v : Var) → Names node v → IsPartOf nodes node t → Mentions nodes t v
 names_mention nodes t (InputNode first w) (Input b) h part =
     record { first = first; width = w; part = part; from = h.0; before = h.1 }
 names_mention nodes t (InputNode first w) (Read r b) h part = absurd h
@@ -247,7 +247,7 @@ pub record IsOwn (nodes : List Node) (marks : List Bool) (part : Node) : Type 0 
   pub at : slice_get nodes of.number ≡ Some part
 
 module _ (nodes : List Node) (t : Term) (marks : List Bool) (are : AreMarks nodes t marks) (part : Node) where
-  part_marked : {u : Term} → IsMarked marks u → IsPartOf nodes part u → IsOwn nodes marks part
+  pub part_marked : {u : Term} → IsMarked marks u → IsPartOf nodes part u → IsOwn nodes marks part
   part_marked m (own u at) = record { of = u; marked = m; at = at }
   part_marked m (of_operand u a node at is h) = part_marked (are.operands u a node m at is) h
 
@@ -348,3 +348,9 @@ found_variable vars v place number found is = record {
 
   number_is : number ≡ suc place
   number_is = omega (arith, is)
+
+pub found_contained : (vars : List Var) (v : Var) (b : Bool) → b ≡ list_any (are_same v) vars → IsTrue b ↔ Contains vars v
+found_contained vars v b is = (
+  (λ holds. Contains-list_any are_same same_var vars v (sym is ∙ holds)),
+  (λ there. is ∙ any_here vars v there.0 (slice_get-get_or vars there.0 v there.1 ∙ ap Some there.2)),
+)

@@ -31,6 +31,10 @@ pub record AreVarsOf (nodes : List Node) (t : Term) (vars : List Var) : Type 0 w
   pub rising : AllPairs IsBefore vars
   pub mentioned : (v : Var) → Contains vars v ↔ Mentions nodes t v
 
+-- no read is asked for in two widths
+pub record AsksOneWidth (nodes : List Node) (t : Term) : Type 0 where
+  pub each : (read v w : ℕ) → MentionsRead nodes t read v → MentionsRead nodes t read w → v ≡ w
+
 -- the point has this bit; of a read, bit 0 is the lowest
 abbrev pub HasBit : Point → Var → Bool → Type 0
 HasBit p (Input bit) truth = slice_get p.inputs bit ≡ Some truth
@@ -59,6 +63,11 @@ abbrev pub Names : Node → Var → Type 0
 Names (InputNode first width) (Input bit) = (first ≤ bit) × (bit < first + width)
 Names (ReadNode read width) (Read r bit) = (r ≡ read) × (bit < width)
 Names node v = ⊥
+
+-- the node is a read of which there is a bit past the node's width
+abbrev pub IsCutRead : List Var → Node → Type 0
+IsCutRead vars (ReadNode read width) = Contains vars (Read read width)
+IsCutRead vars node = ⊥
 
 -- the new list has what the old one had and what is so, and nothing else
 pub record Gains (old new : List Var) (IsSo : Var → Type 0) : Type 0 where

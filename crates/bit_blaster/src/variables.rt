@@ -1,5 +1,5 @@
 //! The variables of a term: the bits of its inputs and reads, in order.
-ghost use Rattle.std.specs.Prelude.{◌≡◌, ◌<◌, IfOk, OnOk, length};
+ghost use Rattle.std.specs.Prelude.{◌≡◌, ◌<◌, ◌↔◌, ◌^◌, IfOk, IsTrue, OnOk, length};
 ghost use Rattle.std.specs.List.{Contains};
 ghost use Rattle.bit_blaster.specs.TermWord.{IsWireOfVar};
 ghost use Rattle.term_dag.specs.Marks.{AreMarks};
@@ -57,11 +57,21 @@ impl Variables {
         Ok(Variables { vars })
     }
 
-    /// How many bits there are.
+    /// How many bits there are, which a `u32` numbers.
     pub(crate) fn count(&self) -> u32
-        ensures { result ≡ length self.now }
+        ensures count { result ≡ length self.now }
+        ensures few { length self.now < 2 ^ 32 }
     {
         self.vars.len() as u32
+    }
+
+    /// Whether the bit has a variable.
+    #[tactic(auto, using(crate::proofs::VariableLemmas::found_contained))]
+    pub(crate) fn has(&self, var: Var) -> bool
+        ensures { IsTrue result ↔ Contains self.now var }
+    {
+        let _ = &self.vars;
+        self.vars.contains(&var)
     }
 
     /// The variable that stands for the bit.
@@ -82,7 +92,8 @@ impl Variables {
 
     /// The bits in order.
     pub(crate) fn into_items(self, alloc: Global) -> Result<Items<Var>, AllocError>
-        ensures { IfOk result (λ vars. vars ≡ self) }
+        ensures bits { IfOk result (λ vars. vars ≡ self) }
+        ensures few { length self < 2 ^ 32 }
     {
         Items::from_slice(alloc, self.vars.as_slice())
     }

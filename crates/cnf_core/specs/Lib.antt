@@ -1,3 +1,4 @@
+pub mod Determined
 pub mod Literal
 pub mod Truth
 pub mod Propagation

@@ -9,7 +9,7 @@ use Rattle.cnf_core.specs.Propagation.{Sets}
 use Rattle.cnf_core.proofs.Literals.{same_var-cases, negation_negation}
 use Rattle.unit_propagation.proofs.PropagationLaws.{sets_decided}
 use Rattle.refutation_checker.specs.Derivation.{IsInput}
-use Rattle.sat_solver.specs.Determined.{Chooses, SetsVariable, IsDetermined, AreNumbered}
+use Rattle.cnf_core.specs.Determined.{Chooses, SetsVariable, IsDetermined, AreNumbered}
 
 sets_input : (inputs : ℕ) (clauses : List (List Lit)) (chosen : List Lit) (l : Lit) → Chooses inputs chosen → IsInput inputs l.var → SetsVariable clauses chosen l
 sets_input inputs clauses chosen l chooses is = elim (same_var-cases l k var) [

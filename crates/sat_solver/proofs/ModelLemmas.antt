@@ -16,7 +16,7 @@ use Rattle.unit_propagation.specs.declared.assignment.Truth.TheVariants.{False, 
 use Rattle.unit_propagation.specs.Propagation.{Propagation, decisions}
 use Rattle.unit_propagation.proofs.PropagationLaws.{sets_cut, conflicts_cut, sets_clauses, conflicts_clauses}
 use Rattle.refutation_checker.specs.Derivation.{Derivation, clause_of, known}
-use Rattle.sat_solver.specs.Determined.{Chooses, SetsVariable, IsDetermined, AreNumbered}
+use Rattle.cnf_core.specs.Determined.{Chooses, SetsVariable, IsDetermined, AreNumbered}
 use Rattle.sat_solver.specs.Deciding.{IsReached, literal, IsSetOneWay, AreSetTo, GivesTrail, SaysVariable}
 use Rattle.sat_solver.specs.Solving.{IsModel}
 use Rattle.sat_solver.proofs.ListLemmas.{any_or_all}

@@ -121,7 +121,7 @@ pub tells_refutation : (inputs : ℕ) (clauses : List (List Lit)) (d e : Derivat
     lines ≡ e.derived → TellsRefutation inputs clauses lines count
 tells_refutation inputs clauses d e lines count h adds accepted same = record {
   accepted = all;
-  ends = record { cubes = d.derived; step = adds.step; parts = parts; are_cubes = h.are_cubes; empty = adds.empty };
+  ends = record { cubes = d.derived; step = adds.step; parts = parts; are_cubes = h.are_cubes; empty = adds.empty; hints = adds.hints };
   refutes = refutes;
   unsatisfiable = unsatisfiable-refuted (over inputs clauses lines) all refutes;
   counted = ap (λ (ls : List Derived). length (cubes_of ls)) parts ∙ count_step d.derived adds.step ∙ h.counted;

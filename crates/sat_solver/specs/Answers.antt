@@ -1,5 +1,5 @@
 -- What an answer tells: the derivation on the way to it, and the facts of each kind of answer.
-use Rattle.std.specs.Prelude.{◌≡◌, ◌∷◌, ◌++◌, ℕ, Bool, List, [], All, ⊤}
+use Rattle.std.specs.Prelude.{◌≡◌, ◌<◌, ◌∷◌, ◌++◌, ℕ, Bool, List, [], All, ⊤}
 use Rattle.cnf_core.specs.declared.formula.Lit.{Lit}
 use Rattle.cnf_core.specs.declared.derivation.Step.{Step as StepLine}
 use Rattle.cnf_core.specs.declared.derivation.Derived.{Derived}
@@ -41,13 +41,14 @@ abbrev pub IsCube : Derived → Type 0
 IsCube (Cube cube) = ⊤
 IsCube (Step step) = ⊥
 
--- cubes, and then the empty clause
+-- cubes, and then the empty clause with numbers of clauses as its hints
 pub record EndsInEmptyStep (lines : List Derived) : Type 0 where
   pub cubes : List Derived
   pub step : StepLine
   pub parts : lines ≡ cubes ++ Step step ∷ []
   pub are_cubes : All IsCube cubes
   pub empty : step.clause ≡ []
+  pub hints : All (λ hint. 0 < hint) step.hints
 
 -- the lines are cubes, but for the empty clause at the end of a refutation
 abbrev pub HasPlainLines : Answer → Type 0

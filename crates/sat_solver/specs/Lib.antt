@@ -1,4 +1,3 @@
-pub mod Determined
 pub mod Answers
 pub mod Deciding
 pub mod Reducing

@@ -26,10 +26,11 @@ pub record IsModel (inputs : ℕ) (clauses : List (List Lit)) (valuation : List 
   pub variables : All (HasVariables valuation) clauses
   pub satisfies : SatisfiesAll valuation clauses
 
--- a step that is the empty clause
+-- a step that is the empty clause, with numbers of clauses as its hints
 pub record AddsEmptyStep (old new : Derivation) : Type 0 where
   pub step : StepLine
   pub empty : step.clause ≡ []
+  pub hints : All (λ hint. 0 < hint) step.hints
   pub added : new ≡ extended old (Step step)
 
 pub record AddsCube (old new : Derivation) : Type 0 where

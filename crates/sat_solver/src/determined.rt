@@ -2,7 +2,7 @@
 
 ghost use Rattle.std.specs.Prelude.{◌↔◌, IsTrue, All};
 ghost use Rattle.refutation_checker.specs.Derivation.{IsInput};
-ghost use Rattle.sat_solver.specs.Determined.{IsDetermined, AreNumbered};
+ghost use Rattle.cnf_core.specs.Determined.{IsDetermined, AreNumbered};
 
 use cnf_core::{Clauses, Lit};
 

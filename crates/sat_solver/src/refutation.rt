@@ -1,6 +1,6 @@
 //! The empty clause as a step, where propagation conflicts with nothing decided.
 
-ghost use Rattle.std.specs.Prelude.{◌≡◌, ◌<◌, ◌+◌, [], IfOk};
+ghost use Rattle.std.specs.Prelude.{◌≡◌, ◌<◌, ◌+◌, [], All, IfOk};
 ghost use Rattle.unit_propagation.specs.Propagated.{IsFalseClause};
 ghost use Rattle.unit_propagation.specs.Propagation.{decisions};
 ghost use Rattle.refutation_checker.specs.Hints.{HintsConflict};
@@ -17,6 +17,7 @@ pub fn empty_step(alloc: Global, solver: &Propagator, falsified: usize) -> Resul
     requires falsified { IsFalseClause solver.now.clauses solver.now.trail falsified }
     ensures empty { IfOk result (λ step. step.clause ≡ []) }
     ensures conflict { IfOk result (λ step. HintsConflict solver.now.clauses [] step.hints) }
+    ensures numbered { IfOk result (λ step. All (λ hint. 0 < hint) step.hints) }
 {
     Ok(Step {
         clause: Items::new(alloc),
@@ -28,6 +29,7 @@ fn hints(alloc: Global, solver: &Propagator, falsified: usize) -> Result<Hints, 
     requires decides { decisions solver.now ≡ [] }
     requires falsified { IsFalseClause solver.now.clauses solver.now.trail falsified }
     ensures conflict { IfOk result (HintsConflict solver.now.clauses []) }
+    ensures numbered { IfOk result (All (λ hint. 0 < hint)) }
 {
     let mut hints = Vec::new(alloc);
     let count = solver.count();

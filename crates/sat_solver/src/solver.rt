@@ -4,7 +4,7 @@ ghost use Rattle.std.specs.Prelude.{◌≡◌, ◌<◌, ◌≤◌, ◌^◌, IfOk
 ghost use Rattle.cnf_core.specs.Truth.{IsUnsatisfiable};
 ghost use Rattle.refutation_checker.specs.Acceptance.{IsAccepted, HasEmptyStep};
 ghost use Rattle.refutation_checker.specs.AcceptedCubes.{cubes_of};
-ghost use Rattle.sat_solver.specs.Determined.{IsDetermined, AreNumbered};
+ghost use Rattle.cnf_core.specs.Determined.{IsDetermined, AreNumbered};
 ghost use Rattle.sat_solver.specs.Answers.{steps_of, told, IfSat, IfUnsat, IfSpent, IfDecided, HasPlainLines};
 ghost use Rattle.sat_solver.specs.Solving.{IsModel};
 

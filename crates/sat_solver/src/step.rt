@@ -8,7 +8,7 @@ ghost use Rattle.unit_propagation.specs.Propagation.{decisions};
 ghost use Rattle.refutation_checker.specs.Derivation.{IsInput, extended, known};
 ghost use Rattle.refutation_checker.specs.Acceptance.{IsLeastConflict};
 ghost use Rattle.sat_solver.specs.Deciding.{IsReached};
-ghost use Rattle.sat_solver.specs.Determined.{IsDetermined, AreNumbered};
+ghost use Rattle.cnf_core.specs.Determined.{IsDetermined, AreNumbered};
 ghost use Rattle.sat_solver.specs.Solving.{IsReady, ComesTo, AddsCube, AddsEmptyStep};
 
 use crate::copies::negations;

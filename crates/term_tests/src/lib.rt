@@ -2,6 +2,8 @@
 #![tactic(auto)]
 
 #[cfg(test)]
+mod circuits;
+#[cfg(test)]
 mod dag;
 #[cfg(test)]
 mod points;

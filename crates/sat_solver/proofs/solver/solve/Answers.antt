@@ -4,7 +4,7 @@ use Rattle.cnf_core.specs.declared.formula.Lit.{Lit}
 use Rattle.std.specs.Prelude.{All}
 use Rattle.unit_propagation.specs.Units.{IsWithin}
 use Rattle.unit_propagation.specs.Trail.{decided}
-use Rattle.sat_solver.specs.Determined.{IsDetermined, AreNumbered}
+use Rattle.cnf_core.specs.Determined.{IsDetermined, AreNumbered}
 use Rattle.sat_solver.proofs.SolvingLemmas.{has_none, has_more, ready_none, tells_cubes, tells_refutation, never, comes_refuted, comes_cube}
 use Rattle.sat_solver.proofs.solver.solve.Goals as goal
 

@@ -1,4 +1,4 @@
--- Formulas whose inputs determine every variable by unit propagation.
+-- Formulas whose first variables, the inputs, determine every other by unit propagation.
 use Rattle.std.specs.Prelude.{◌≡◌, ◌<◌, ◌+◌, ◌⊎◌, ℕ, List, All, length, slice_index_or}
 use Rattle.cnf_core.specs.declared.formula.Lit.{Lit}
 use Rattle.cnf_core.specs.Literal.{negation}
