@@ -1,3 +1,4 @@
+pub mod AskedLemmas
 pub mod HexLemmas
 pub mod TextLemmas
 pub mod ListLemmas

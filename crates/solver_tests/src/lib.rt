@@ -9,4 +9,8 @@ mod formulas;
 #[cfg(test)]
 mod propagators;
 #[cfg(test)]
+mod records;
+#[cfg(test)]
 mod signed;
+#[cfg(test)]
+mod solves;

@@ -1,0 +1,4 @@
+pub mod Question
+pub mod About
+pub mod Logged
+pub mod Blank
