@@ -3,3 +3,10 @@ pub mod Bounds
 pub mod Input
 pub mod Numbered
 pub mod Placed
+pub mod Syntax
+pub mod Trees
+pub mod Entries
+pub mod BoundedInput
+pub mod WellFormed
+pub mod Built
+pub mod Shapes

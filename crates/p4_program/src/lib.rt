@@ -9,6 +9,7 @@ mod bounds;
 mod input;
 mod program;
 mod resolution;
+pub mod typed;
 mod v1model;
 
 pub use bounds::{Bounds, MAX_BUDGET, MAX_BYTES, MAX_ENTRIES, MAX_STEPS};

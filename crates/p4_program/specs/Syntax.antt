@@ -1,0 +1,6 @@
+pub mod Expressions
+pub mod Statements
+pub mod Callables
+pub mod Programs
+pub mod Lookup
+pub mod Numbering

@@ -1,0 +1,5 @@
+pub mod Expressions
+pub mod Statements
+pub mod Callables
+pub mod Parts
+pub mod Programs

@@ -1,0 +1,6 @@
+pub mod Types
+pub mod Paths
+pub mod Expressions
+pub mod Statements
+pub mod Callables
+pub mod Programs
