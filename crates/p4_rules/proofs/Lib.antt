@@ -1,0 +1,4 @@
+pub mod CheckedLaws
+pub mod ExampleFaults
+pub mod DecidingLaws
+pub mod ExampleProgramLaws
