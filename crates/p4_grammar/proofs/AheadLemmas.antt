@@ -7,17 +7,12 @@ use Rattle.ll1_engine.specs.Table.{IsRow}
 use Rattle.ll1_engine.specs.Trees.{preorder}
 use Rattle.p4_grammar.specs.Rows.{grammar_rows}
 use Rattle.p4_grammar.specs.Parses.{Parse, End, Word, Node, trees_of, tokens_in}
-use Rattle.p4_grammar.specs.Ahead.{Begins, IsWord, after, joined, opened, token_at, first_of, first_symbol}
+use Rattle.p4_grammar.specs.Ahead.{Begins, IsWord, after, joined, opened, token_at, first_of, first_symbol, nodes}
 use Rattle.p4_grammar.specs.Walk.{ahead, left_of, told_by, IsInStep}
 
--- How many nodes there are, which falls where one is entered.
+-- The nodes ahead, which are fewer where one is entered.
 
-abbrev pub nodes : Parse → ℕ
-nodes End = 0
-nodes (Word t rest) = nodes rest
-nodes (Node k r under rest) = suc (nodes under + nodes rest)
-
-nodes_joined : (a b : Parse) → nodes (joined a b) ≡ nodes a + nodes b
+pub nodes_joined : (a b : Parse) → nodes (joined a b) ≡ nodes a + nodes b
 nodes_joined End b = omega arith
 nodes_joined (Word t a) b = nodes_joined a b
 nodes_joined (Node k r u a) b = omega (arith, nodes_joined a b)
@@ -177,3 +172,8 @@ symbol_read grammar rows tokens row token form p d s same h =
 pub get_first : (xs : List ℕ) → slice_get xs 0 ≡ first_of xs
 get_first [] = refl
 get_first (x ∷ xs) = refl
+
+pub nodes_passed : (form : ℕ) (p : Parse) → Begins form p → nodes (after p) < nodes p
+nodes_passed form End h = absurd h
+nodes_passed form (Word t a) h = absurd h
+nodes_passed form (Node k r u a) h = omega arith

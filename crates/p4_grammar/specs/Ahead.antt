@@ -1,5 +1,5 @@
 -- What a reader of a derivation stands before: the trees that it has not read yet, the first of them next.
-use Rattle.std.specs.Prelude.{◌≡◌, ℕ, List, [], ◌∷◌, Option, None, Some}
+use Rattle.std.specs.Prelude.{◌≡◌, ℕ, suc, ◌+◌, List, [], ◌∷◌, Option, None, Some}
 use Rattle.p4_lexer.specs.declared.token.Token.{Token}
 use Rattle.ll1_engine.specs.declared.grammar.Row.{Row}
 use Rattle.ll1_engine.specs.Table.{IsRow}
@@ -72,3 +72,9 @@ abbrev pub first_symbol : Parse → Option ℕ
 first_symbol End = None
 first_symbol (Word t rest) = None
 first_symbol (Node k r under rest) = first_of r.right
+
+-- how many nodes there are
+abbrev pub nodes : Parse → ℕ
+nodes End = 0
+nodes (Word t rest) = nodes rest
+nodes (Node k r under rest) = suc (nodes under + nodes rest)

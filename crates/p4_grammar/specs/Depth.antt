@@ -59,13 +59,21 @@ pub record HasDepth (tokens : List Token) (k depth : ℕ) : Type 0 where
   pub derives : IsAllowedTree grammar_rows tree (take (k + 1) (terminals_of tokens) ++ rest)
   pub counted : depth ≡ depth_in tree (terminals_of tokens) k
 
--- TooDeep, at the first token that has more than MAX_DEPTH forms open around it.
+-- none of the first tokens, so many, has too many forms open around it
+abbrev pub IsShallowBefore : List Token → ℕ → Type 0
+IsShallowBefore tokens count = (k depth : ℕ) → k < count → HasDepth tokens k depth → depth ≤ MAX_DEPTH
+
+-- the first token that has more than MAX_DEPTH forms open around it
+pub record IsFirstDeep (tokens : List Token) (at : ℕ) : Type 0 where
+  pub depth : ℕ
+  pub here : HasDepth tokens at depth
+  pub over : MAX_DEPTH < depth
+  pub first : IsShallowBefore tokens at
+
+-- TooDeep, at that token
 pub record IsDepthFault (tokens : Tokens) (refusal : Refusal) : Type 0 where
   pub at : ℕ
-  pub depth : ℕ
-  pub here : HasDepth tokens.tokens at depth
-  pub over : MAX_DEPTH < depth
-  pub first : (k other : ℕ) → k < at → HasDepth tokens.tokens k other → other ≤ MAX_DEPTH
+  pub deep : IsFirstDeep tokens.tokens at
   pub code : refusal.code ≡ TooDeep
   pub place : IsPlaceOf tokens at (record { line = refusal.line; column = refusal.column })
 

@@ -1,6 +1,6 @@
 -- The types, expressions and single keys of a source. Each definition is given what is below a node, and covers the rows of
 -- its form; where an expression has begun, it is also given the expression so far.
-use Rattle.std.specs.Prelude.{◌==◌, true, false, List, [], ◌∷◌, Option, None, Some, if◌then◌else◌}
+use Rattle.std.specs.Prelude.{ℕ, Bool, ◌==◌, ◌||◌, true, false, List, [], ◌∷◌, Option, None, Some, if◌then◌else◌}
 use Rattle.tg_base.specs.declared.place.Span.{Span}
 use Rattle.p4_lexer.specs.declared.token.Keyword.TheVariants as keyword
 use Rattle.p4_lexer.specs.declared.token.Sign.TheVariants as sign
@@ -25,7 +25,7 @@ use Rattle.p4_tree.specs.declared.expressions.PostfixKind.{PostfixKind}
 use Rattle.p4_tree.specs.declared.expressions.PostfixKind.TheVariants as postfix
 use Rattle.p4_tree.specs.declared.expressions.SimpleKey.{SimpleKey, roll-SimpleKey}
 use Rattle.p4_tree.specs.declared.expressions.SimpleKeyKind.{SimpleKeyKind}
-use Rattle.p4_grammar.specs.declared.symbols.TheConstants.{UNARY_OPERATOR, TYPE_FORM, WIDTH_ARGUMENTS}
+use Rattle.p4_grammar.specs.declared.symbols.TheConstants.{UNARY_OPERATOR, TYPE_FORM, WIDTH_ARGUMENTS, BASE, INT_LITERAL, KEYWORD_BIT, KEYWORD_BOOL, KEYWORD_ERROR, KEYWORD_FALSE, KEYWORD_INT, KEYWORD_TRUE, SIGN_MINUS, SIGN_NOT, SIGN_TILDE, TEXT}
 use Rattle.p4_grammar.specs.Parses.{Parse, End, Word as Leaf, Node, place_of, option_map, both, all_three}
 use Rattle.p4_grammar.specs.Names.{name_at, word_name}
 
@@ -75,6 +75,10 @@ unary_operator_of (word.Sign sign.Tilde) = Some unary.Complement
 unary_operator_of (word.Sign sign.Minus) = Some unary.Minus
 unary_operator_of _ = None
 
+-- the symbols of operators before an operand
+abbrev pub is_unary_operator : ℕ → Bool
+is_unary_operator x = (x == SIGN_NOT) || (x == SIGN_TILDE) || (x == SIGN_MINUS)
+
 -- an atom of one word, at its place
 abbrev pub atom_at : Span → Word → Option ExpressionKind
 atom_at span (word.Int literal) = Some (kind.Literal literal)
@@ -83,6 +87,10 @@ atom_at span (word.Keyword keyword.True) = Some (kind.Bool true)
 atom_at span (word.Keyword keyword.False) = Some (kind.Bool false)
 atom_at span (word.Base text) = Some (kind.Base (record { text = text; span = span }))
 atom_at span _ = None
+
+-- the symbols of atoms of one word
+abbrev pub is_atom : ℕ → Bool
+is_atom x = (x == INT_LITERAL) || (x == TEXT) || (x == KEYWORD_TRUE) || (x == KEYWORD_FALSE) || (x == BASE)
 
 abbrev pub width_at : Word → Option WidthKind
 width_at (word.Int literal) = Some (width.Literal literal)
@@ -94,11 +102,19 @@ base_at (word.Keyword keyword.Bool) = Some base.Bool
 base_at (word.Keyword keyword.Error) = Some base.Error
 base_at _ = None
 
+-- the symbols of types of one word
+abbrev pub is_base : ℕ → Bool
+is_base x = (x == KEYWORD_BOOL) || (x == KEYWORD_ERROR)
+
 -- `bit` or `int` with what stands behind it
 abbrev pub sized_at : Word → Option (Option Width → BaseType)
 sized_at (word.Keyword keyword.Bit) = Some (λ w. base.Bit w)
 sized_at (word.Keyword keyword.Int) = Some (λ w. base.Int w)
 sized_at _ = None
+
+-- the symbols of types with a width behind them
+abbrev pub is_sized : ℕ → Bool
+is_sized x = (x == KEYWORD_BIT) || (x == KEYWORD_INT)
 
 abbrev pub type_at : Span → BaseType → Option Expression → TypeForm
 type_at span base size = roll-TypeForm (record { base = base; size = size; span = span })

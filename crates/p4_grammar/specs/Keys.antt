@@ -1,5 +1,5 @@
 -- The keys and key sets of a source, by the rows of their forms.
-use Rattle.std.specs.Prelude.{◌==◌, List, [], ◌∷◌, Option, None, Some, if◌then◌else◌}
+use Rattle.std.specs.Prelude.{◌≡◌, ℕ, Bool, ◌==◌, ◌||◌, List, [], ◌∷◌, Option, None, Some, if◌then◌else◌}
 use Rattle.tg_base.specs.declared.place.Span.{Span}
 use Rattle.p4_lexer.specs.declared.token.Keyword.TheVariants as keyword
 use Rattle.p4_lexer.specs.declared.token.Sign.TheVariants as sign
@@ -13,7 +13,9 @@ use Rattle.p4_tree.specs.declared.expressions.SimpleKeyKind.TheVariants as key
 use Rattle.p4_tree.specs.declared.keys.KeySet.{KeySet}
 use Rattle.p4_tree.specs.declared.keys.KeySetKind.{KeySetKind}
 use Rattle.p4_tree.specs.declared.keys.KeySetKind.TheVariants.{One, Several}
-use Rattle.p4_grammar.specs.declared.symbols.TheConstants.{UNARY_OPERATOR}
+use Rattle.p4_grammar.specs.declared.keys.GroupedKey.{GroupedKey}
+use Rattle.p4_grammar.specs.declared.keys.GroupedKey.TheVariants as read
+use Rattle.p4_grammar.specs.declared.symbols.TheConstants.{KEYWORD_DEFAULT, SIGN_MASK, SIGN_RANGE, SIGN_UNDERSCORE, UNARY_OPERATOR}
 use Rattle.p4_grammar.specs.Parses.{Parse, End, Word as Leaf, Node, option_map, both, all_three}
 use Rattle.p4_grammar.specs.Expressions.{expression_at, span_of, with_parts, key_at, expression, operations, unary_of, with_operator, atom, parts, type_form}
 
@@ -23,11 +25,19 @@ plain_key (word.Keyword keyword.Default) = Some key.Default
 plain_key (word.Sign sign.Underscore) = Some key.Any
 plain_key _ = None
 
+-- the symbols of keys of one word
+abbrev pub is_plain_key : ℕ → Bool
+is_plain_key x = (x == KEYWORD_DEFAULT) || (x == SIGN_UNDERSCORE)
+
 -- `&&&` or `..`, between two expressions
 abbrev pub pair_of : Word → Option (Expression → Expression → SimpleKeyKind)
 pair_of (word.Sign sign.Mask) = Some (λ e m. key.Mask e m)
 pair_of (word.Sign sign.Range) = Some (λ e m. key.Range e m)
 pair_of _ = None
+
+-- the symbols between the two expressions of a key
+abbrev pub is_pair : ℕ → Bool
+is_pair x = (x == SIGN_MASK) || (x == SIGN_RANGE)
 
 abbrev pub pair_at : (Expression → Expression → SimpleKeyKind) → Expression → Expression → SimpleKey
 pair_at pair first second = key_at (span_of first) (pair first second)
@@ -49,12 +59,42 @@ abbrev pub grouped : Span → Parse → Option Expression
 grouped span (Node k r below (Node j s End End)) = option_map (λ e. expression_at span (kind.Parenthesized e)) (expression below)
 grouped span below = option_map (λ one. expression_at span (kind.ParenthesizedKey one)) (simple_key below)
 
+-- the same behind an expression, with what MASK has behind it
+abbrev pub grouped_behind : Span → Option Expression → Parse → Option Expression
+grouped_behind span e End = option_map (λ inner. expression_at span (kind.Parenthesized inner)) e
+grouped_behind span e mask = option_map (λ one. expression_at span (kind.ParenthesizedKey one)) (masked e mask)
+
+-- a key in parentheses that was read, as a key
+abbrev pub key_of : GroupedKey → SimpleKey
+key_of (read.Expression e) = key_at (span_of e) (key.Value e)
+key_of (read.Key one) = one
+
+-- the same as an operand
+abbrev pub operand_of : Span → GroupedKey → Expression
+operand_of span (read.Expression e) = expression_at span (kind.Parenthesized e)
+operand_of span (read.Key one) = expression_at span (kind.ParenthesizedKey one)
+
+-- what is below SIMPLE_KEY is this key
+pub record IsGroupedKey (one : GroupedKey) (under : Parse) : Type 0 where
+  pub key : simple_key under ≡ Some (key_of one)
+  pub operand : (span : Span) → grouped span under ≡ Some (operand_of span one)
+
+-- what is below MASK, behind this expression, makes this key of it
+pub record IsGroupedBehind (one : GroupedKey) (first : Expression) (mask : Parse) : Type 0 where
+  pub key : masked (Some first) mask ≡ Some (key_of one)
+  pub operand : (span : Span) → grouped_behind span (Some first) mask ≡ Some (operand_of span one)
+
 abbrev pub key_set_at : Span → KeySetKind → KeySet
 key_set_at span kind = record { kind = kind; span = span }
 
 -- one key, at this place
 abbrev pub one_key : Span → Option SimpleKey → Option KeySet
 one_key span one = option_map (λ k. key_set_at span (One k)) one
+
+-- several keys in parentheses that open there
+abbrev pub several_keys : Span → Option SimpleKey → Option SimpleKey → Option (List SimpleKey) → Option KeySet
+several_keys span first second more =
+    both (λ one rest. key_set_at span (Several (one ∷ rest))) first (both (λ one rest. one ∷ rest) second more)
 
 -- KEY_PARENTHESIS_TAIL
 abbrev pub more_keys : Parse → Option (List SimpleKey)

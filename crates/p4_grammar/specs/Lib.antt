@@ -2,12 +2,15 @@ pub mod Rows
 pub mod Words
 pub mod Derivation
 pub mod Depth
+pub mod Descent
 pub mod Parses
 pub mod Ahead
 pub mod ParseCode
 pub mod Walk
 pub mod Names
 pub mod Expressions
+pub mod Levels
+pub mod PartsAhead
 pub mod Keys
 pub mod Statements
 pub mod Parsers

@@ -30,23 +30,23 @@ abbrev pub field_at : List Annotation → TypeForm → Name → Span → Field
 field_at notes form name span = record { annotations = notes; type_form = form; name = name; span = span }
 
 -- FIELDS_LIST
-abbrev pub fields_list : Parse → Option (List Field)
+unfoldable pub fields_list : Parse → Option (List Field)
 fields_list End = Some []
 fields_list (Node k r notes (Node j s form (Node i q name (Leaf end (Node l u rest End))))) =
     both (λ one more. one ∷ more) (all_four field_at (annotations notes) (type_form form) (name_of name) (place_of form)) (fields_list rest)
 fields_list _ = None
 
 -- FIELDS
-abbrev pub fields : Parse → Option (List Field)
+unfoldable pub fields : Parse → Option (List Field)
 fields (Leaf begin (Node k r below (Leaf close End))) = fields_list below
 fields _ = None
 
 -- MEMBER
-abbrev pub member : Parse → Option Member
+unfoldable pub member : Parse → Option Member
 member (Node k r name (Node j s value End)) = all_three (λ n v span. record { name = n; value = v; span = span }) (name_of name) (initial_value value) (place_of name)
 member _ = None
 
-abbrev mutual
+unfoldable mutual
   -- MEMBERS_TAIL
   pub members_tail : Parse → Option (List Member)
   members_tail End = Some []
@@ -60,18 +60,18 @@ abbrev mutual
   members_more _ = None
 
 -- MEMBERS
-abbrev pub members : Parse → Option (List Member)
+unfoldable pub members : Parse → Option (List Member)
 members (Leaf begin (Node k r below (Node j s rest (Leaf close End)))) = both (λ one more. one ∷ more) (member below) (members_tail rest)
 members _ = None
 
 -- ENUMERATION_WIDTH
-abbrev pub enumeration_width : Parse → Option (Option Width)
+unfoldable pub enumeration_width : Parse → Option (Option Width)
 enumeration_width End = Some None
 enumeration_width (Leaf bit (Leaf begin (Node k r below (Leaf close End)))) = option_map (λ w. Some w) (width_of below)
 enumeration_width _ = None
 
 -- ENUMERATION
-abbrev pub enumeration : Parse → Option Enumeration
+unfoldable pub enumeration : Parse → Option Enumeration
 enumeration (Leaf begin (Node k r width (Node j s name (Node i q below End)))) =
     all_three (λ w n ms. record { width = w; name = n; members = ms }) (enumeration_width width) (name_of name) (members below)
 enumeration _ = None
@@ -86,7 +86,7 @@ abbrev pub fielded_at : (Name → List Field → DeclarationKind) → Name → L
 fielded_at made name fields = made name fields
 
 -- DECLARATION
-abbrev pub declaration : Parse → Option DeclarationKind
+unfoldable pub declaration : Parse → Option DeclarationKind
 declaration (Node k r below End) =
     if r.left == CONSTANT then option_map (λ c. declared.Constant c) (constant below)
     else (if r.left == ENUMERATION then option_map (λ e. declared.Enumeration e) (enumeration below)
@@ -104,7 +104,7 @@ declaration (Leaf begin (Node k r below (Node j s given (Node i q name (Leaf end
 declaration _ = None
 
 -- PROGRAM: a declaration's place is that of its first token without annotations
-abbrev pub program : Parse → Option (List TopPart)
+unfoldable pub program : Parse → Option (List TopPart)
 program End = Some []
 program (Leaf t (Node k r rest End)) = option_map (λ more. top.Empty t.span ∷ more) (program rest)
 program (Node k r notes (Node j s below (Node i q rest End))) =

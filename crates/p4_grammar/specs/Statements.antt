@@ -26,13 +26,13 @@ use Rattle.p4_grammar.specs.Names.{word_name, name_of, annotations}
 use Rattle.p4_grammar.specs.Expressions.{expression_at, span_of, with_parts, expression, type_form, parts}
 
 -- INITIAL_VALUE
-abbrev pub initial_value : Parse → Option (Option Expression)
+unfoldable pub initial_value : Parse → Option (Option Expression)
 initial_value End = Some None
 initial_value (Leaf assign (Node k r below End)) = option_map (λ e. Some e) (expression below)
 initial_value _ = None
 
 -- CONSTANT
-abbrev pub constant : Parse → Option Constant
+unfoldable pub constant : Parse → Option Constant
 constant (Leaf begin (Node k r t (Node j s n (Leaf assign (Node i q e (Leaf end End)))))) =
     all_three (λ form name value. record { type_form = form; name = name; value = value; span = begin.span }) (type_form t) (name_of n) (expression e)
 constant _ = None
@@ -41,7 +41,7 @@ abbrev pub variable_at : Span → TypeForm → Name → Option Expression → Va
 variable_at span form name value = record { type_form = form; name = name; value = value; span = span }
 
 -- VARIABLE: a constant or a variable
-abbrev pub variable : {X : Type 0} → (Constant → X) → (Variable → X) → Parse → Option X
+unfoldable pub variable : {X : Type 0} → (Constant → X) → (Variable → X) → Parse → Option X
 variable fixed free (Node k r below End) = option_map fixed (constant below)
 variable fixed free (Node k r t (Node j s n (Node i q value (Leaf end End)))) =
     option_map free (all_four variable_at (place_of t) (type_form t) (name_of n) (initial_value value))
@@ -57,13 +57,13 @@ word_statement (word.Keyword keyword.Return) = Some statement.Return
 word_statement _ = None
 
 -- STATEMENT_REST, behind a path
-abbrev pub statement_rest : Parse → Option (Expression → StatementKind)
+unfoldable pub statement_rest : Parse → Option (Expression → StatementKind)
 statement_rest (Leaf end End) = Some (λ path. statement.Call path)
 statement_rest (Leaf assign (Node k r below (Leaf end End))) = option_map (λ value path. statement.Assign path value) (expression below)
 statement_rest _ = None
 
 -- SWITCH_LABEL
-abbrev pub switch_label : Parse → Option SwitchLabel
+unfoldable pub switch_label : Parse → Option SwitchLabel
 switch_label (Leaf t End) = Some label.Default
 switch_label (Node k r below End) = option_map (λ n. label.Action n) (name_of below)
 switch_label _ = None
@@ -71,7 +71,7 @@ switch_label _ = None
 abbrev pub case_at : Span → SwitchLabel → Option Block → SwitchCase
 case_at span label body = roll-SwitchCase (record { label = label; body = body; span = span })
 
-abbrev mutual
+unfoldable mutual
   -- BLOCK
   pub block : Parse → Option Block
   block (Leaf begin (Node k r below (Leaf close End))) = option_map (λ ps. roll-Block (record { parts = ps; span = begin.span })) (block_parts below)

@@ -5,7 +5,13 @@ ghost use Rattle.ll1_engine.specs.Table.{FitsIn};
 ghost use Rattle.ll1_engine.specs.Parse.{CanGoOn};
 ghost use Rattle.p4_lexer.specs.declared.token.Token.{Token};
 ghost use Rattle.p4_grammar.specs.Words.{terminals_of};
-ghost use Rattle.p4_grammar.specs.Depth.{HasDepth};
+ghost use Rattle.p4_grammar.specs.Depth.{HasDepth, IsShallow};
+ghost use Rattle.p4_grammar.specs.Derivation.{HasDerivation};
+ghost use Rattle.p4_grammar.specs.Reading.{IsReading, IsReadFault};
+ghost use Rattle.p4_grammar.specs.Sources.{IsSourceOf};
+ghost use Rattle.p4_lexer.specs.declared.token.Tokens.{Tokens};
+ghost use Rattle.p4_tree.specs.declared.declarations.Source.{Source};
+ghost use Rattle.tg_base.specs.declared.place.Refusal.{Refusal};
 ghost use Rattle.ll1_engine.specs.Conditions.{IsGood};
 ghost use Rattle.p4_grammar.specs.declared.symbols.TheConstants.{SYMBOL_COUNT, ROW_COUNT};
 ghost use Rattle.p4_grammar.specs.Rows.{grammar_rows};
@@ -29,4 +35,19 @@ pub fn tokens_that_go_on_have_a_depth()
         CanGoOn grammar_rows (take (k + 1) (terminals_of tokens)) → (d : ℕ) × HasDepth tokens k d }
     ensures begins { (tokens : List Token) (k d : ℕ) → HasDepth tokens k d →
         CanGoOn grammar_rows (take (k + 1) (terminals_of tokens)) }
+{}
+
+/// Tokens are read in one way. They have at most one tree, and at most one refusal, and not both; tokens that are not refused
+/// have no token that is too deep, and are not without a derivation.
+pub fn tokens_are_read_in_one_way()
+    ensures tree { (tokens : Tokens) (source other : Source) →
+        IsSourceOf source tokens → IsSourceOf other tokens → other ≡ source }
+    ensures refusal { (tokens : Tokens) (r s : Refusal) →
+        IsReadFault tokens r → IsReadFault tokens s → r ≡ s }
+    ensures apart { (tokens : Tokens) (source : Source) (refusal : Refusal) →
+        IsReading source tokens → ¬ IsReadFault tokens refusal }
+    ensures shallow { (tokens : Tokens) →
+        ((refusal : Refusal) → ¬ IsReadFault tokens refusal) → IsShallow tokens.tokens }
+    ensures derived { (tokens : Tokens) →
+        ((refusal : Refusal) → ¬ IsReadFault tokens refusal) → ¬ (¬ HasDerivation tokens.tokens) }
 {}

@@ -1,9 +1,8 @@
 -- The annotations so far and those ahead are all.
 use Rattle.std.proofs.Common.{◌≡◌}
 use Rattle.p4_grammar.specs.declared.symbols.TheConstants.{ANNOTATIONS}
-use Rattle.p4_grammar.specs.Ahead.{Begins, below, after}
+use Rattle.p4_grammar.specs.Ahead.{Begins, below, after, nodes}
 use Rattle.p4_grammar.specs.Names.{annotations}
-use Rattle.p4_grammar.proofs.AheadLemmas.{nodes}
 use Rattle.p4_grammar.proofs.ListLemmas.{behind}
 use Rattle.p4_grammar.proofs.names.annotations.Given as goal
 

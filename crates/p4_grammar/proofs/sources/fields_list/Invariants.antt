@@ -1,0 +1,17 @@
+-- The fields so far and those ahead are all.
+use Rattle.std.proofs.Common.{◌≡◌}
+use Rattle.p4_grammar.specs.declared.symbols.TheConstants.{FIELDS_LIST}
+use Rattle.p4_grammar.specs.Ahead.{Begins, below, after, nodes}
+use Rattle.p4_grammar.specs.Sources.{fields_list}
+use Rattle.p4_grammar.proofs.ListLemmas.{behind}
+use Rattle.p4_grammar.proofs.sources.fields_list.Given as goal
+
+abbrev pub invariant-loop-alloc : goal.invariant-loop-alloc
+invariant-loop-alloc l = record {
+  begins : Begins FIELDS_LIST l.cursor;
+  list : behind l.all.items (fields_list (below l.cursor)) ≡ fields_list (below l.fn.cursor);
+  rest : after l.cursor ≡ after l.fn.cursor;
+}
+
+abbrev pub decreases-loop-alloc : goal.decreases-loop-alloc
+decreases-loop-alloc l = nodes l.cursor

@@ -1,0 +1,17 @@
+-- The actions so far and those ahead are all.
+use Rattle.std.proofs.Common.{◌≡◌}
+use Rattle.p4_grammar.specs.declared.symbols.TheConstants.{LISTED_ACTIONS}
+use Rattle.p4_grammar.specs.Ahead.{Begins, below, after, nodes}
+use Rattle.p4_grammar.specs.Tables.{listed_actions}
+use Rattle.p4_grammar.proofs.ListLemmas.{behind}
+use Rattle.p4_grammar.proofs.tables.listed_actions.Given as goal
+
+abbrev pub invariant-loop-alloc : goal.invariant-loop-alloc
+invariant-loop-alloc l = record {
+  begins : Begins LISTED_ACTIONS l.cursor;
+  list : behind l.all.items (listed_actions (below l.cursor)) ≡ listed_actions (below l.fn.cursor);
+  rest : after l.cursor ≡ after l.fn.cursor;
+}
+
+abbrev pub decreases-loop-alloc : goal.decreases-loop-alloc
+decreases-loop-alloc l = nodes l.cursor
