@@ -51,7 +51,7 @@ row 'a name is missing' 1 '' "$USAGE" gen
 row 'a word that is not text' 1 '' "$USAGE" gen $'\xff.p4'
 holds 'wrong words' test_1.stf ''
 
-row 'another source' 2 '' "$NOT_BUILT" gen b.p4
+row 'another source' 2 '' 'refused 13 Syntax at 1:1' gen b.p4
 row 'an empty source' 2 '' "$NOT_BUILT" gen /dev/null
 holds 'refused' test_1.stf ''
 

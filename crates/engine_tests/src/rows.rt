@@ -94,19 +94,34 @@ const JOBS: [Job; 10] = [
 ];
 
 /// Statements with which the skeleton is refused, and the note.
-const REFUSED: [(&str, &str); 15] = [
+const REFUSED: [(&str, &str); 19] = [
     // Tokens of no program that is built.
     ("    s.egress_spec = 512;\n", NOT_BUILT),
     ("    s.egress_spec = 03;\n", NOT_BUILT),
     ("    s.egress_spec = 0x3;\n", NOT_BUILT),
     ("    s.egress_spec = 9w3;\n", NOT_BUILT),
-    ("    s.egress_spec = ;\n", NOT_BUILT),
     ("    s.egress_spec = 1000;\n", NOT_BUILT),
     ("    @name(\"x\") mark_to_drop(s);\n", NOT_BUILT),
-    ("    \"mark_to_drop(s);\"\n", NOT_BUILT),
+    (
+        "    s.egress_spec = ((((((((((((((((((((((((((((((((((((((((((((((((((((((((((((((3))))))))))))))))))))))))))))))))))))))))))))))))))))))))))))));\n",
+        NOT_BUILT,
+    ),
     (
         "    mark_to_drop(s);\n    mark_to_drop(s);\n    mark_to_drop(s);\n    mark_to_drop(s);\n    mark_to_drop(s);\n    mark_to_drop(s);\n    mark_to_drop(s);\n    mark_to_drop(s);\n    mark_to_drop(s);\n    mark_to_drop(s);\n    mark_to_drop(s);\n    mark_to_drop(s);\n    mark_to_drop(s);\n    mark_to_drop(s);\n    mark_to_drop(s);\n    mark_to_drop(s);\n    mark_to_drop(s);\n",
         NOT_BUILT,
+    ),
+    // Tokens without a derivation: no operand, no statement, and no end of one; the place is where no list goes on.
+    ("    s.egress_spec = ;\n", "refused 13 Syntax at 11:21\n"),
+    ("    \"mark_to_drop(s);\"\n", "refused 13 Syntax at 11:5\n"),
+    ("    s.egress_spec = 3\n", "refused 13 Syntax at 12:3\n"),
+    // Two braces and 62 brackets are open around the number above; here one more is. It decides over what stops behind it.
+    (
+        "    s.egress_spec = (((((((((((((((((((((((((((((((((((((((((((((((((((((((((((((((3)))))))))))))))))))))))))))))))))))))))))))))))))))))))))))))));\n",
+        "refused 14 TooDeep at 11:84\n",
+    ),
+    (
+        "    s.egress_spec = (((((((((((((((((((((((((((((((((((((((((((((((((((((((((((((((3;\n",
+        "refused 14 TooDeep at 11:84\n",
     ),
     // No tokens: a byte that is no text, one that begins no word, a comment that is not ended, a number that a letter
     // follows, a directive of another kind, and a condition that is not ended.

@@ -7,6 +7,8 @@ use Rattle.std.specs.List.{flat_map, AllByRecursion}
 use Rattle.p4_lexer.specs.declared.token.Token.{Token}
 use Rattle.p4_lexer.specs.declared.token.Tokens.{Tokens}
 use Rattle.p4_lexer.specs.Tokens.{HasTokens, IsRefused as IsRefusedByScan}
+use Rattle.p4_tree.specs.declared.declarations.Source.{Source}
+use Rattle.p4_grammar.specs.Reading.{IsReading, IsReadFault}
 use Rattle.p4_program.specs.declared.program.Program.{Program}
 use Rattle.p4_program.specs.declared.program.Statement.{Statement}
 use Rattle.p4_program.specs.declared.program.StatementKind.{StatementKind}
@@ -83,20 +85,30 @@ pub record IsProgramOf (tokens : Tokens) (p : Program) : Type 0 where
 abbrev pub IsNoProgram : Tokens → Type 0
 IsNoProgram tokens = (p : Program) → IsProgramOf tokens p → ⊥
 
--- The bytes are a source of this program: few enough, and their tokens are those of the program.
+-- The tokens have a tree that is nowhere too deep, and are those of this program.
+pub record AreBuiltAs (tokens : Tokens) (p : Program) : Type 0 where
+  pub source : Source
+  pub read : IsReading source tokens
+  pub program : IsProgramOf tokens p
+
+-- The bytes are a source of this program: few enough, and their tokens are built as the program.
 pub record StandsFor (bytes : List ℕ) (p : Program) : Type 0 where
   pub few : length bytes ≤ MAX_BYTES
   pub tokens : Tokens
   pub scanned : HasTokens bytes tokens
-  pub program : IsProgramOf tokens p
+  pub built : AreBuiltAs tokens p
 
 -- what refuses a source as a whole, at its first place
 abbrev pub at_start : Code → Refusal
 at_start code = record { code = code; line = 1; column = 1 }
 
--- The bytes are refused so, by the first pass that refuses them: the size; the scan; and that the program is not built yet.
+-- The tokens are refused so: by the reading, or since the program is not built yet.
+pub data AreRefused (tokens : Tokens) (refusal : Refusal) : Type 0 where
+  not_read : IsReadFault tokens refusal → AreRefused tokens refusal
+  not_built : (source : Source) → IsReading source tokens → IsNoProgram tokens → refusal ≡ at_start NotBuilt → AreRefused tokens refusal
+
+-- The bytes are refused so, by the first pass that refuses them: the size; the scan; and what refuses their tokens.
 pub data IsRefused (bytes : List ℕ) (refusal : Refusal) : Type 0 where
   too_long : MAX_BYTES < length bytes → refusal ≡ at_start Limit → IsRefused bytes refusal
   no_tokens : length bytes ≤ MAX_BYTES → IsRefusedByScan bytes refusal → IsRefused bytes refusal
-  not_built : (tokens : Tokens) → length bytes ≤ MAX_BYTES → HasTokens bytes tokens → IsNoProgram tokens → refusal ≡ at_start NotBuilt
-      → IsRefused bytes refusal
+  no_program : (tokens : Tokens) → length bytes ≤ MAX_BYTES → HasTokens bytes tokens → AreRefused tokens refusal → IsRefused bytes refusal

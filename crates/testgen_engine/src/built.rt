@@ -4,11 +4,12 @@ ghost use Rattle.std.specs.List.{AllByRecursion};
 ghost use Rattle.p4_program.specs.Placed.{IsPlaced};
 ghost use Rattle.testgen_engine.specs.declared.skeleton.TheConstants.{MOST_STATEMENTS};
 ghost use Rattle.testgen_engine.specs.Written.{is_blank};
-ghost use Rattle.testgen_engine.specs.Skeleton.{head_text, statement_text, place_of, placed_from, words_in, at_start, FitsNineBits, IsProgramOf, IsNoProgram, StandsFor, IsRefused};
+ghost use Rattle.testgen_engine.specs.Skeleton.{head_text, statement_text, place_of, placed_from, words_in, at_start, FitsNineBits, AreBuiltAs, AreRefused, IsProgramOf, IsNoProgram, StandsFor, IsRefused};
 
 use crate::skeleton::{assignment, drop_call, end_of_assignment, head, kinds_in};
 use crate::source::MAX_BYTES;
 use crate::written::written;
+use p4_grammar::read;
 use p4_lexer::{Tokens, scan};
 use p4_program::{Program, Statement, StatementKind};
 use sqlite_items::Items;
@@ -27,7 +28,19 @@ pub fn program_of(alloc: Global, source: &[u8]) -> Result<Built, AllocError>
         return Ok(Err(at_start(Code::Limit)));
     }
     match scan(alloc, source) {
-        Ok(tokens) => match program_in(alloc, &tokens)? {
+        Ok(tokens) => built_of(alloc, &tokens),
+        Err(Fault::Refused(refusal)) => Ok(Err(refusal)),
+        Err(Fault::Memory(error)) => Err(error),
+    }
+}
+
+/// The program of the tokens, where they have a tree and it is built.
+fn built_of(alloc: Global, tokens: &Tokens) -> Result<Built, AllocError>
+    ensures { IfOk result (λ built. MatchResult built
+        (λ program. AreBuiltAs tokens.now program) (λ refusal. AreRefused tokens.now refusal)) }
+{
+    match read(alloc, tokens) {
+        Ok(_) => match program_in(alloc, tokens)? {
             Some(program) => Ok(Ok(program)),
             None => Ok(Err(at_start(Code::NotBuilt))),
         },
