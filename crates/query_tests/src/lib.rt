@@ -1,0 +1,7 @@
+//! Tests alone, of questions about terms, over the public calls of `query_engine`.
+#![tactic(auto)]
+
+#[cfg(test)]
+mod asking;
+#[cfg(test)]
+mod ports;
