@@ -1,4 +1,5 @@
 pub mod BitList
+pub mod Checksum
 pub mod Circuit
 pub mod Number
 pub mod Operator

@@ -10,6 +10,8 @@ ghost use Rattle.bits_core.specs.declared.operator.OpShape.TheVariants.{Test};
 ghost use Rattle.bits_core.specs.Number.{signed_value, wrapped, slice_value, extend_value};
 ghost use Rattle.bits_core.specs.Operator.{WidthsFit, shape_of, result_width, operator_value};
 ghost use Rattle.bits_core.specs.Operator.{test_value, row_of};
+ghost use Rattle.bits_core.specs.Checksum.{csum16_value, xor16_value};
+ghost use Rattle.std.specs.Prelude.{[], ◌∷◌};
 
 pub mod circuits;
 pub mod places;
@@ -109,4 +111,14 @@ pub fn extensions_are_cut()
     ensures unsigned { (w x width : ℕ) → w ≤ width → x < 2 ^ w → extend_value false w x width ≡ x }
     ensures signed { (w x width : ℕ) → 1 ≤ w → w ≤ width → x < 2 ^ w
         → signed_value width (extend_value true w x width) ≡ signed_value w x }
+{}
+
+/// Sums that were worked out by hand: of nothing but 0, of an end carry, and of an IPv4 header with its checksum and
+/// without.
+pub fn checksums_are_as_worked_out()
+    ensures zero { csum16_value (0 ∷ []) ≡ 65535 }
+    ensures end_carry { csum16_value (65535 ∷ 1 ∷ []) ≡ 65534 }
+    ensures with_its_sum { csum16_value (17664 ∷ 115 ∷ 0 ∷ 16384 ∷ 16401 ∷ 47201 ∷ 49320 ∷ 1 ∷ 49320 ∷ 199 ∷ []) ≡ 0 }
+    ensures without { csum16_value (17664 ∷ 115 ∷ 0 ∷ 16384 ∷ 16401 ∷ 49320 ∷ 1 ∷ 49320 ∷ 199 ∷ []) ≡ 47201 }
+    ensures exclusive { xor16_value (4660 ∷ 255 ∷ []) ≡ 4811 }
 {}
