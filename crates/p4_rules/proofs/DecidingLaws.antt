@@ -4,7 +4,8 @@ use Rattle.std.proofs.Common.{refl, sym, ap, ◌∙◌, subst, suc-le-suc, zero-
 use Rattle.std.proofs.Math.Nat.{not-suc-le-zero, le_of_suc-le-suc, le_refl, not-suc-le_self}
 use Rattle.tg_base.specs.declared.place.Refusal.{Refusal}
 use Rattle.tg_base.specs.Deciding.{DecidesOver}
-use Rattle.p4_rules.specs.Faults.{Fault, FaultsAt, Decides, pass_number, refusal_of}
+use Rattle.p4_rules.specs.declared.faults.Fault.{Fault}
+use Rattle.p4_rules.specs.Faults.{FaultsAt, Decides, pass_number, refusal_of}
 
 -- what stands in a list of one thing is that thing
 in_replicate : (n k : ℕ) (fault other : Fault) → k < length (replicate n fault) → slice_index_or (replicate n fault) k other ≡ other → other ≡ fault

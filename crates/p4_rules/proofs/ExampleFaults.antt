@@ -1,6 +1,6 @@
 -- The refusals of small sources, by evaluation: each has one fault, told once or more often.
 use Rattle.tg_base.specs.declared.place.Code.TheVariants as code
-use Rattle.p4_rules.specs.Faults.{Checking}
+use Rattle.p4_rules.specs.declared.faults.Pass.TheVariants.{Checking}
 use Rattle.p4_rules.specs.Examples.{at, empty, too_large, no_field, another_type, truncated, too_wide}
 use Rattle.p4_rules.specs.ExampleFaults.{RefusedAt}
 use Rattle.p4_rules.proofs.DecidingLaws.{alone_decides}

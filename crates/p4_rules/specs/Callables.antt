@@ -12,11 +12,17 @@ use Rattle.p4_program.specs.declared.typed.callables.Parameter.{Parameter as Cor
 use Rattle.p4_program.specs.Syntax.Callables.{CoreAction}
 use Rattle.p4_program.specs.Syntax.Statements.{CoreStatements}
 use Rattle.p4_rules.specs.Chains.{of_statements}
-use Rattle.p4_rules.specs.Faults.{Checking, Checked, Right, Wrong, provided, and_then, made_of, both, beside}
-use Rattle.p4_rules.specs.Types.{SourceType, Opaque, PacketIn, PacketOut, is_run_time}
-use Rattle.p4_rules.specs.Scopes.{Scope, InAction, Meaning, VariableOf, ObjectOf, ActionOf, ParameterShape, once, innermost, with_name, with_callable_depth, within, value_type}
+use Rattle.p4_rules.specs.declared.faults.Pass.TheVariants.{Checking}
+use Rattle.p4_rules.specs.Faults.{Checked, Right, Wrong, provided, and_then, made_of, both, beside}
+use Rattle.p4_rules.specs.declared.types.SourceType.{SourceType}
+use Rattle.p4_rules.specs.declared.types.Object.TheVariants.{PacketIn, PacketOut}
+use Rattle.p4_rules.specs.declared.types.SourceType.TheVariants.{Opaque}
+use Rattle.p4_rules.specs.Types.{is_run_time}
+use Rattle.p4_rules.specs.declared.scopes.ParameterShape.{ParameterShape}
+use Rattle.p4_rules.specs.declared.scopes.Here.TheVariants.{InAction}
+use Rattle.p4_rules.specs.Scopes.{Scope, Meaning, VariableOf, ObjectOf, ActionOf, once, innermost, with_name, with_callable_depth, within, value_type}
 use Rattle.p4_rules.specs.Expressions.{written_type}
-use Rattle.p4_rules.specs.Declared.{next_root}
+use Rattle.p4_rules.specs.Variables.{next_root}
 use Rattle.p4_rules.specs.Counts.{Count, count_of_parts}
 use Rattle.p4_rules.specs.Statements.{parts_of, variables_of}
 use Rattle.p4_rules.specs.Notes.{noted}

@@ -1,5 +1,5 @@
 -- Calls: of actions, methods and functions, with their arguments and the places where they may stand.
-use Rattle.std.specs.Prelude.{ℕ, ◌%◌, ◌==◌, nat_lt, List, [], ◌∷◌, ◌++◌, map, Bool, true, false, ◌&&◌, Option, None, Some, unsigned_abs, length, if◌then◌else◌, slice_get}
+use Rattle.std.specs.Prelude.{ℕ, ◌%◌, ◌==◌, nat_lt, List, [], ◌∷◌, ◌++◌, map, Bool, true, false, ◌&&◌, Option, None, Some, Result, unsigned_abs, length, if◌then◌else◌, slice_get}
 use Rattle.std.specs.List.{list_all, sum_by}
 use Rattle.tg_base.specs.declared.place.Span.{Span}
 use Rattle.tg_base.specs.declared.place.Code.TheVariants as code
@@ -13,14 +13,23 @@ use Rattle.p4_program.specs.Syntax.Expressions as core
 use Rattle.p4_program.specs.Syntax.Statements.{CoreArgument, CoreWork}
 use Rattle.p4_program.specs.Syntax.Statements as work
 use Rattle.p4_rules.specs.Chains.{depth_in}
-use Rattle.p4_rules.specs.Faults.{Checking, Checked, Right, Wrong, fault_at, provided, and_then, made_of, both, all_four, all_of}
+use Rattle.p4_rules.specs.declared.faults.Pass.TheVariants.{Checking}
+use Rattle.p4_rules.specs.Faults.{Checked, Right, Wrong, fault_at, provided, and_then, made_of, both, all_four, all_of, of_told}
+use Rattle.p4_rules.specs.declared.faults.Fault.{Fault}
 use Rattle.p4_rules.specs.Integers.{is_negative}
-use Rattle.p4_rules.specs.Types.{SourceType, Bit, Boolean, Error, Enumeration, Structure, Header, Stack, Opaque, Object, same_type, same_object, is_sized, is_run_time, FieldOf}
-use Rattle.p4_rules.specs.Scopes.{Scope, is_in_parser, is_in_control, is_in_control_or_action, Meaning, ObjectOf, ActionOf, FunctionOf, Function, Verify, MarkToDrop, VerifyChecksum, UpdateChecksum, LogMsg, Random, LeftOut, ParameterShape}
+use Rattle.p4_rules.specs.declared.types.SourceType.{SourceType}
+use Rattle.p4_rules.specs.declared.types.Object.{Object}
+use Rattle.p4_rules.specs.declared.types.FieldOf.{FieldOf}
+use Rattle.p4_rules.specs.declared.types.SourceType.TheVariants.{Bit, Boolean, Error, Enumeration, Structure, Header, Stack, Opaque}
+use Rattle.p4_rules.specs.Types.{same_type, same_object, is_sized, is_run_time}
+use Rattle.p4_rules.specs.declared.scopes.Function.{Function}
+use Rattle.p4_rules.specs.declared.scopes.ParameterShape.{ParameterShape}
+use Rattle.p4_rules.specs.declared.scopes.Function.TheVariants.{Verify, MarkToDrop, VerifyChecksum, UpdateChecksum, LogMsg, Random, LeftOut}
+use Rattle.p4_rules.specs.Scopes.{Scope, is_in_parser, is_in_control, is_in_control_or_action, Meaning, ObjectOf, ActionOf, FunctionOf}
 use Rattle.p4_rules.specs.Operands.{Operand, Fixed, Stored, Computed, Placed, type_of, core_of}
 use Rattle.p4_rules.specs.Casts.{cast_to, as_bits, typing_fault, constant_fault}
 use Rattle.p4_rules.specs.Operators.{is_of_bits, width_in}
-use Rattle.p4_rules.specs.Things.{Thing, Value, Named, MethodOf, NextOf, Applied, WorkOf, Text, Braced, misfit, judged_list, Method, IsValid, SetValid, SetInvalid, PushFront, PopFront, Extract, Advance, Lookahead, Emit, Count, CountDirect, ExecuteMeter, ApplyTable, ApplyControl, Judged, value_of, number_of, validity_of}
+use Rattle.p4_rules.specs.Things.{Thing, Value, Named, MethodOf, NextOf, Applied, WorkOf, Text, Braced, misfit, Method, IsValid, SetValid, SetInvalid, PushFront, PopFront, Extract, Advance, Lookahead, Emit, Count, CountDirect, ExecuteMeter, ApplyTable, ApplyControl, Judged, value_of, number_of, validity_of}
 
 -- a value for an `in` parameter of this type
 abbrev pub passed_in : Scope → SourceType → Judged → Checked CoreExpression
@@ -195,8 +204,8 @@ method_call Γ (ApplyControl n shapes) place passed =
     (only_where (is_in_control Γ.here) place (a_call (made_of (λ those. work.ApplyControl n those) (arguments Γ place shapes passed))))
 
 -- "Checksums" of v1model: a list of `bit` values of whole 16-bit words, at least one; any other data is left out
-abbrev pub words_of : Scope → List Judged → Checked (List Operand)
-words_of Γ js = all_of (map (λ j. made_of (λ p. as_bits Γ p.operand) (value_of j)) js)
+abbrev pub words_of : Scope → List (Result Placed Fault) → Checked (List Operand)
+words_of Γ values = all_of (map (λ value. made_of (λ p. as_bits Γ p.operand) (of_told value)) values)
 
 abbrev pub bits_in : List Operand → ℕ
 bits_in xs = sum_by (λ x. width_in (type_of x)) xs
@@ -210,7 +219,7 @@ if_whole_words Γ place (Right xs) =
 if_whole_words Γ place (Wrong fault more) = fault_at Checking code.Unsupported place
 
 abbrev pub data_in : Scope → Span → Thing → Checked (List CoreExpression)
-data_in Γ place (Braced things) = if_whole_words Γ place (words_of Γ (judged_list things))
+data_in Γ place (Braced values) = if_whole_words Γ place (words_of Γ values)
 data_in Γ place _ = fault_at Checking code.Unsupported place
 
 abbrev pub checksum_data : Scope → Judged → Checked (List CoreExpression)
@@ -225,12 +234,12 @@ abbrev pub algorithm_passed : Judged → Checked Algorithm
 algorithm_passed a = and_then (value_of a) (λ p. algorithm_of p.place p.operand)
 
 -- the value of an argument of `log_msg`: any that a run has
-abbrev pub logged : Scope → Judged → Checked CoreExpression
-logged Γ j = and_then (value_of j)
+abbrev pub logged : Scope → Result Placed Fault → Checked CoreExpression
+logged Γ value = and_then (of_told value)
     (λ p. provided (is_run_time (type_of p.operand)) Checking code.Typing p.place (core_of Γ p.operand))
 
 abbrev pub logged_in : Scope → Span → Thing → Checked (List CoreExpression)
-logged_in Γ place (Braced things) = all_of (map (logged Γ) (judged_list things))
+logged_in Γ place (Braced values) = all_of (map (logged Γ) values)
 logged_in Γ place _ = typing_fault place
 
 abbrev pub logged_list : Scope → Judged → Checked (List CoreExpression)

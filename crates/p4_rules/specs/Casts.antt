@@ -5,9 +5,12 @@ use Rattle.tg_base.specs.declared.place.Code.TheVariants as code
 use Rattle.bits_core.specs.Number.{wrapped, extend_value}
 use Rattle.p4_program.specs.Syntax.Expressions.{CoreExpression}
 use Rattle.p4_program.specs.Syntax.Expressions as core
-use Rattle.p4_rules.specs.Faults.{Checking, Checked, Right, fault_at, provided}
+use Rattle.p4_rules.specs.declared.faults.Pass.TheVariants.{Checking}
+use Rattle.p4_rules.specs.Faults.{Checked, Right, fault_at, provided}
 use Rattle.p4_rules.specs.Integers.{fits_bit, fits_int}
-use Rattle.p4_rules.specs.Types.{SourceType, Bit, Signed, Integer, Boolean, BitEnumeration, same_type}
+use Rattle.p4_rules.specs.declared.types.SourceType.{SourceType}
+use Rattle.p4_rules.specs.declared.types.SourceType.TheVariants.{Bit, Signed, Integer, Boolean, BitEnumeration}
+use Rattle.p4_rules.specs.Types.{same_type}
 use Rattle.p4_rules.specs.Scopes.{Scope}
 use Rattle.p4_rules.specs.Operands.{Operand, Whole, Fixed, Computed, type_of, varying_or, core_of, retyped}
 

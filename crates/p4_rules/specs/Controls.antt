@@ -23,15 +23,22 @@ use Rattle.p4_program.specs.Syntax.Callables as core
 use Rattle.p4_program.specs.Syntax.Statements.{CoreStatements}
 use Rattle.p4_program.specs.Syntax.Statements as statements
 use Rattle.p4_rules.specs.Chains.{depth_in, of_statements, below_actions}
-use Rattle.p4_rules.specs.Faults.{Checking, Checked, Right, Wrong, fault_at, provided, given, and_then, made_of, both, all_three, beside}
+use Rattle.p4_rules.specs.declared.faults.Pass.TheVariants.{Checking}
+use Rattle.p4_rules.specs.Faults.{Checked, Right, Wrong, fault_at, provided, given, and_then, made_of, both, all_three, beside}
 use Rattle.p4_rules.specs.Integers.{fits_bit}
-use Rattle.p4_rules.specs.Types.{SourceType, Enumeration, Opaque, Object, Counter, DirectCounter, Meter, ParserType, ControlType}
-use Rattle.p4_rules.specs.Scopes.{Scope, Allowed, InControl, Meaning, ObjectOf, InstanceOf, ParameterShape, once, innermost, with_name, with_table_depth, with_child_depth, within}
+use Rattle.p4_rules.specs.declared.types.SourceType.{SourceType}
+use Rattle.p4_rules.specs.declared.types.Object.{Object}
+use Rattle.p4_rules.specs.declared.types.Object.TheVariants.{Counter, DirectCounter, Meter, ParserType, ControlType}
+use Rattle.p4_rules.specs.declared.types.SourceType.TheVariants.{Enumeration, Opaque}
+use Rattle.p4_rules.specs.declared.scopes.Allowed.{Allowed}
+use Rattle.p4_rules.specs.declared.scopes.ParameterShape.{ParameterShape}
+use Rattle.p4_rules.specs.declared.scopes.Here.TheVariants.{InControl}
+use Rattle.p4_rules.specs.Scopes.{Scope, Meaning, ObjectOf, InstanceOf, once, innermost, with_name, with_table_depth, with_child_depth, within}
 use Rattle.p4_rules.specs.Operands.{Placed, constant_number}
 use Rattle.p4_rules.specs.Casts.{typing_fault}
 use Rattle.p4_rules.specs.Things.{value_of}
 use Rattle.p4_rules.specs.Expressions.{written_type}
-use Rattle.p4_rules.specs.Declared.{judged_expression, with_constant, with_variable, constant_within, variable_within}
+use Rattle.p4_rules.specs.Variables.{judged_expression, with_constant, with_variable, constant_within, variable_within}
 use Rattle.p4_rules.specs.Statements.{variables_of, followed_by}
 use Rattle.p4_rules.specs.Callables.{with_parameters, parameter_shapes, core_parameters, body_of, count_of_block, ActionMade, action_of, action_meaning, behind_action}
 use Rattle.p4_rules.specs.Keys.{constant_for, constant_first}

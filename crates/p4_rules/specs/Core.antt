@@ -1,9 +1,16 @@
 -- What core.p4 and v1model.p4 declare before each source.
-use Rattle.std.specs.Prelude.{ℕ, List, [], ◌∷◌, ◌++◌, map, true, ℤ, pos, codes}
+use Rattle.std.specs.Prelude.{ℕ, List, [], ◌∷◌, ◌++◌, map, true, ℤ, pos, codes, Ok}
 use Rattle.p4_rules.specs.Chains.{no_depths}
-use Rattle.p4_rules.specs.Faults.{Right, Checking}
-use Rattle.p4_rules.specs.Types.{SourceType, Bit, Error, Enumeration, Structure, Opaque, PacketIn, PacketOut, Counter, DirectCounter, Meter, Register, Package, FieldOf}
-use Rattle.p4_rules.specs.Scopes.{Scope, AtTop, Allowed, TypeOf, ActionOf, FunctionOf, Function, Verify, MarkToDrop, VerifyChecksum, UpdateChecksum, LogMsg, Random, LeftOut, Names}
+use Rattle.p4_rules.specs.declared.faults.Pass.TheVariants.{Checking}
+use Rattle.p4_rules.specs.declared.types.SourceType.{SourceType}
+use Rattle.p4_rules.specs.declared.types.FieldOf.{FieldOf}
+use Rattle.p4_rules.specs.declared.types.Object.TheVariants.{PacketIn, PacketOut, Counter, DirectCounter, Meter, Register, Package}
+use Rattle.p4_rules.specs.declared.types.SourceType.TheVariants.{Bit, Error, Enumeration, Structure, Opaque}
+use Rattle.p4_rules.specs.declared.scopes.Allowed.{Allowed}
+use Rattle.p4_rules.specs.declared.scopes.Function.{Function}
+use Rattle.p4_rules.specs.declared.scopes.Function.TheVariants.{Verify, MarkToDrop, VerifyChecksum, UpdateChecksum, LogMsg, Random, LeftOut}
+use Rattle.p4_rules.specs.declared.scopes.Here.TheVariants.{AtTop}
+use Rattle.p4_rules.specs.Scopes.{Scope, TypeOf, ActionOf, FunctionOf, Names}
 
 abbrev pub bits_field : List ℕ → ℕ → FieldOf
 bits_field name w = record { name = name; type_of = Bit w }
@@ -79,10 +86,10 @@ left_out =
 
 -- the names at the top before a source: types, functions, and the action `NoAction`, which has the number 0
 abbrev pub core_names : Names
-core_names = (codes "NoAction", Right (ActionOf 0 []))
-    ∷ (map (λ t. (t.0, Right (TypeOf t.1))) named_types
-    ++ (map (λ f. (f.0, Right (FunctionOf f.1))) functions
-    ++ map (λ name. (name, Right (FunctionOf LeftOut))) left_out))
+core_names = (codes "NoAction", Ok (ActionOf 0 []))
+    ∷ (map (λ t. (t.0, Ok (TypeOf t.1))) named_types
+    ++ (map (λ f. (f.0, Ok (FunctionOf f.1))) functions
+    ++ map (λ name. (name, Ok (FunctionOf LeftOut))) left_out))
 
 -- every call may stand where nothing forbids it
 abbrev pub all_allowed : Allowed

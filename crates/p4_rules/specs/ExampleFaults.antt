@@ -2,7 +2,8 @@
 use Rattle.std.specs.Prelude.{ℕ}
 use Rattle.tg_base.specs.declared.place.Code.{Code}
 use Rattle.p4_tree.specs.declared.declarations.Source.{Source}
-use Rattle.p4_rules.specs.Faults.{Checking, pass_number}
+use Rattle.p4_rules.specs.declared.faults.Pass.TheVariants.{Checking}
+use Rattle.p4_rules.specs.Faults.{pass_number}
 use Rattle.p4_rules.specs.Typed.{IsRefusedIn}
 
 -- the source is refused when it is checked, with this code at this place

@@ -1,6 +1,6 @@
 -- Expressions and types as they are written: what each stands for in a scope. The two lead to one another, since a cast has a
 -- type, and a width or the size of a stack is an expression.
-use Rattle.std.specs.Prelude.{ℕ, ◌+◌, ◌-◌, nat_le, nat_lt, List, [], ◌∷◌, Bool, true, false, ◌&&◌, not, Option, None, Some, ℤ, pos, int_lt, int_le, unsigned_abs, codes, if◌then◌else◌}
+use Rattle.std.specs.Prelude.{ℕ, ◌+◌, ◌-◌, nat_le, nat_lt, List, [], ◌∷◌, map, Bool, true, false, ◌&&◌, not, Option, None, Some, ℤ, pos, int_lt, int_le, unsigned_abs, codes, if◌then◌else◌}
 use Rattle.std.specs.Str.{bytes_eq}
 use Rattle.tg_base.specs.declared.place.Span.{Span}
 use Rattle.tg_base.specs.declared.place.Code.TheVariants as code
@@ -20,14 +20,17 @@ use Rattle.p4_tree.specs.declared.expressions.SimpleKeyKind.{SimpleKeyKind}
 use Rattle.p4_tree.specs.declared.expressions.SimpleKeyKind.TheVariants as key
 use Rattle.p4_program.specs.Syntax.Expressions as core
 use Rattle.p4_program.specs.declared.typed.paths.Step.TheVariants as step
-use Rattle.p4_rules.specs.Faults.{Folding, Checking, Checked, Right, fault_at, provided, and_then, made_of, both, with_both, with_three}
+use Rattle.p4_rules.specs.declared.faults.Pass.TheVariants.{Folding, Checking}
+use Rattle.p4_rules.specs.Faults.{Checked, Right, fault_at, provided, and_then, made_of, both, with_both, with_three, told}
 use Rattle.p4_rules.specs.Integers.{widest}
-use Rattle.p4_rules.specs.Types.{SourceType, Bit, Signed, Integer, Boolean, Error, Header, Stack, Opaque, Register}
+use Rattle.p4_rules.specs.declared.types.SourceType.{SourceType}
+use Rattle.p4_rules.specs.declared.types.Object.TheVariants.{Register}
+use Rattle.p4_rules.specs.declared.types.SourceType.TheVariants.{Bit, Signed, Integer, Boolean, Error, Header, Stack, Opaque}
 use Rattle.p4_rules.specs.Scopes.{Scope, folding, meaning_of, type_meaning, as_type}
 use Rattle.p4_rules.specs.Operands.{Operand, Fixed, Stored, Sliced, Computed, Placed, type_of, varying_or, core_of, constant_number}
 use Rattle.p4_rules.specs.Casts.{cast, as_bits, typing_fault}
 use Rattle.p4_rules.specs.Operators.{binary, unary_of, choice, is_of_bits, is_number, bool_value, width_in}
-use Rattle.p4_rules.specs.Things.{Thing, Value, TypeName, Errors, Text, Braced, Things, Nothing, Another, judged_list, Judged, value_at, value_of, number_of, literal, thing_of, member_of, lookahead_of, step_from}
+use Rattle.p4_rules.specs.Things.{Thing, Value, TypeName, Errors, Text, Braced, Judged, value_at, value_of, number_of, literal, thing_of, member_of, lookahead_of, step_from}
 use Rattle.p4_rules.specs.Callees.{call}
 
 -- the greatest size of a stack
@@ -136,7 +139,7 @@ abbrev mutual
   judged Γ (kind.Bool b) place = Right (value_at place (Fixed Boolean (bool_value b)))
   judged Γ (kind.Name name) place = made_of (judged_at place) (and_then (meaning_of Γ name) (thing_of Γ name.span))
   judged Γ (kind.Base name) place = made_of (judged_at place) (base_thing Γ name)
-  judged Γ (kind.List' count row) place = made_of (λ things. judged_at place (Braced things)) (all_judged Γ row)
+  judged Γ (kind.List' count row) place = made_of (λ js. judged_at place (Braced (map (λ j. told (value_of j)) js))) (all_judged Γ row)
   judged Γ (kind.Parenthesized' one (more_of-Expression k s end_of-Expression)) place = judged Γ k s
   -- a key with a mask, a range, `_` or `default` in parentheses is no value
   judged Γ (kind.ParenthesizedKey' one (more_of-SimpleKey k s end_of-SimpleKey)) place = and_then (key_parts Γ k s) (λ js. typing_fault place)
@@ -154,9 +157,9 @@ abbrev mutual
       (and_then (judged Γ k s) value_of) (and_then (judged Γ l t) value_of) (and_then (judged Γ m u) value_of))
 
   -- expressions in a row
-  pub all_judged : Scope → {n : _} → Row_of-Expression n → Checked Things
-  all_judged Γ end_of-Expression = Right Nothing
-  all_judged Γ (more_of-Expression k s rest) = both (λ j things. Another j.thing j.place things) (judged Γ k s) (all_judged Γ rest)
+  pub all_judged : Scope → {n : _} → Row_of-Expression n → Checked (List Judged)
+  all_judged Γ end_of-Expression = Right []
+  all_judged Γ (more_of-Expression k s rest) = both (λ j js. j ∷ js) (judged Γ k s) (all_judged Γ rest)
 
   -- operators of one level, from left to right
   pub after_operations : Scope → Span → Checked Run → {n : _} → Row_of-Operation n → Checked Run
@@ -175,7 +178,7 @@ abbrev mutual
       with_both (λ j u. lookahead_of Γ j.thing u s) head (written_type Γ place t)
   after_part Γ place head (postfix.Index' k at) s = with_both (indexed Γ place) head (judged Γ k at)
   after_part Γ place head (postfix.Slice' k at l to) s = with_three (sliced Γ) head (judged Γ k at) (judged Γ l to)
-  after_part Γ place head (postfix.Call' count row) s = with_both (λ j things. call Γ j.thing place (judged_list things)) head (all_judged Γ row)
+  after_part Γ place head (postfix.Call' count row) s = with_both (λ j js. call Γ j.thing place js) head (all_judged Γ row)
 
   -- the parts of a key
   pub key_parts : Scope → SimpleKeyKind → Span → Checked (List Judged)

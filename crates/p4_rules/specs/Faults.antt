@@ -1,24 +1,17 @@
 -- What a part of a source is checked to: what it stands for, or its faults and nothing else.
-use Rattle.std.specs.Prelude.{ℕ, List, [], ◌∷◌, ◌++◌, ◌≡◌, Bool, true, false, Contains, Option, None, Some}
+use Rattle.std.specs.Prelude.{ℕ, List, [], ◌∷◌, ◌++◌, ◌≡◌, Bool, true, false, ◌&&◌, ◌||◌, ◌==◌, nat_lt, Contains, Option, None, Some, Result, Ok, Err, if◌then◌else◌}
 use Rattle.tg_base.specs.declared.place.Code.{Code}
 use Rattle.tg_base.specs.declared.place.Span.{Span}
 use Rattle.tg_base.specs.declared.place.Refusal.{Refusal}
+use Rattle.tg_base.specs.Code.{number_of}
 use Rattle.tg_base.specs.Deciding.{IsDecidingOf}
-
--- The passes that find these faults: declared constants, widths, values of members and sizes of stacks are folded before
--- anything else is checked.
-pub data Pass : Type 0 where
-  Folding Checking : Pass
+use Rattle.p4_rules.specs.declared.faults.Pass.{Pass}
+use Rattle.p4_rules.specs.declared.faults.Pass.TheVariants.{Folding, Checking}
+use Rattle.p4_rules.specs.declared.faults.Fault.{Fault}
 
 abbrev pub pass_number : Pass → ℕ
 pass_number Folding = 0
 pass_number Checking = 1
-
--- a rule that fails, or a limit that is passed
-pub record Fault : Type 0 where
-  pub pass : Pass
-  pub code : Code
-  pub place : Span
 
 -- What a part is checked to. What is wrong has at least one fault, so no part has both, and none has neither.
 pub data Checked (X : Type 0) : Type 0 where
@@ -100,3 +93,29 @@ pub record FaultsAt (faults : List Fault) (pass : ℕ) (refusal : Refusal) : Typ
 -- of these faults the one that decides is of the earliest pass, there of the first place, and there of the lowest number
 abbrev pub Decides : List Fault → ℕ → Refusal → Type 0
 Decides faults pass refusal = IsDecidingOf (FaultsAt faults) pass refusal
+
+-- a fault comes before another by its pass, then by its place, then by the number of its code
+abbrev pub order_of : Fault → List ℕ
+order_of fault = pass_number fault.pass ∷ fault.place.line ∷ fault.place.column ∷ number_of fault.code ∷ []
+
+-- numbers in the order of words in a dictionary
+abbrev pub comes_first : List ℕ → List ℕ → Bool
+comes_first (a ∷ more) (b ∷ others) = nat_lt a b || ((a == b) && comes_first more others)
+comes_first _ _ = true
+
+abbrev pub earlier : Fault → Fault → Fault
+earlier f g = if comes_first (order_of f) (order_of g) then f else g
+
+-- the first of several faults, which decides
+abbrev pub least : Fault → List Fault → Fault
+least f [] = f
+least f (g ∷ gs) = earlier f (least g gs)
+
+-- what is told of a part: what it stands for, or the first of its faults
+abbrev pub told : {X : Type 0} → Checked X → Result X Fault
+told (Right x) = Ok x
+told (Wrong fault more) = Err (least fault more)
+
+abbrev pub of_told : {X : Type 0} → Result X Fault → Checked X
+of_told (Ok x) = Right x
+of_told (Err fault) = Wrong fault []

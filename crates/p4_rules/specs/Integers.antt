@@ -3,7 +3,8 @@ use Rattle.std.specs.Prelude.{ℕ, ◌-◌, ◌^◌, ℤ, pos, neg_ℤ, ◌*ℤ�
 use Rattle.std.specs.Int.{int_div_euclid, int_rem_euclid}
 use Rattle.tg_base.specs.declared.place.Code.TheVariants.{Constant}
 use Rattle.tg_base.specs.declared.place.Span.{Span}
-use Rattle.p4_rules.specs.Faults.{Pass, Checked, Right, fault_at}
+use Rattle.p4_rules.specs.declared.faults.Pass.{Pass}
+use Rattle.p4_rules.specs.Faults.{Checked, Right, fault_at}
 
 -- the widest number, in bits
 abbrev pub widest : ℕ

@@ -14,8 +14,10 @@ use Rattle.p4_program.specs.declared.typed.tables.Pattern.TheVariants as pattern
 use Rattle.std.proofs.Common.{zero-le, suc-le-suc}
 use Rattle.std.proofs.Math.Nat.{min-le_right, mod-lt}
 use Rattle.std.proofs.lemmas.Nat.{pow_pos}
-use Rattle.p4_rules.specs.Faults.{Checking, Checked, Right, fault_at, and_then, made_of, both, with_both}
-use Rattle.p4_rules.specs.Types.{SourceType, is_sized}
+use Rattle.p4_rules.specs.declared.faults.Pass.TheVariants.{Checking}
+use Rattle.p4_rules.specs.Faults.{Checked, Right, fault_at, and_then, made_of, both, with_both}
+use Rattle.p4_rules.specs.declared.types.SourceType.{SourceType}
+use Rattle.p4_rules.specs.Types.{is_sized}
 use Rattle.p4_rules.specs.Scopes.{Scope}
 use Rattle.p4_rules.specs.Operands.{Operand, Whole, Fixed, Placed, varying_or}
 use Rattle.p4_rules.specs.Operators.{width_in}

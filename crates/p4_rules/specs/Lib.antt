@@ -9,7 +9,7 @@ pub mod Things
 pub mod Callees
 pub mod Expressions
 pub mod Notes
-pub mod Declared
+pub mod Variables
 pub mod Counts
 pub mod Statements
 pub mod Callables

@@ -25,7 +25,8 @@ use Rattle.p4_tree.specs.declared.tables.PropertyKind.{PropertyKind}
 use Rattle.p4_tree.specs.declared.tables.PropertyKind.TheVariants as property
 use Rattle.p4_tree.specs.declared.tables.Table.{Table}
 use Rattle.p4_tree.specs.declared.tables.TableKey.{TableKey}
-use Rattle.p4_rules.specs.Faults.{Checking, Checked, Right, fault_at, beside}
+use Rattle.p4_rules.specs.declared.faults.Pass.TheVariants.{Checking}
+use Rattle.p4_rules.specs.Faults.{Checked, Right, fault_at, beside}
 use Rattle.p4_rules.specs.Core.{core_errors}
 
 -- at most so many of each

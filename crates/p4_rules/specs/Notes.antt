@@ -6,7 +6,8 @@ use Rattle.tg_base.specs.declared.place.Code.TheVariants as code
 use Rattle.p4_tree.specs.declared.names.Annotation.{Annotation}
 use Rattle.p4_tree.specs.declared.names.AnnotationKind.{AnnotationKind}
 use Rattle.p4_tree.specs.declared.names.AnnotationKind.TheVariants as note
-use Rattle.p4_rules.specs.Faults.{Checking, Checked, Right, fault_at, beside}
+use Rattle.p4_rules.specs.declared.faults.Pass.TheVariants.{Checking}
+use Rattle.p4_rules.specs.Faults.{Checked, Right, fault_at, beside}
 use Rattle.p4_rules.specs.Scopes.{or_else}
 
 -- a letter, a digit, `_`, `.` or `$`

@@ -9,7 +9,8 @@ use Rattle.p4_program.specs.declared.typed.types.ValueType.{ValueType}
 use Rattle.p4_program.specs.declared.typed.types.ValueType.TheVariants as value
 use Rattle.p4_program.specs.Syntax.Expressions.{CoreExpression}
 use Rattle.p4_program.specs.Syntax.Expressions as core
-use Rattle.p4_rules.specs.Types.{SourceType, Bit, Signed, Integer, BitEnumeration}
+use Rattle.p4_rules.specs.declared.types.SourceType.{SourceType}
+use Rattle.p4_rules.specs.declared.types.SourceType.TheVariants.{Bit, Signed, Integer, BitEnumeration}
 use Rattle.p4_rules.specs.Scopes.{Scope, value_type}
 
 -- "Compile-time known values": a constant has its value before any run. Each of the others has the place of its first part that

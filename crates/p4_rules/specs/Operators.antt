@@ -13,9 +13,12 @@ use Rattle.p4_program.specs.declared.typed.expressions.Operator.{Operator as Cor
 use Rattle.p4_program.specs.declared.typed.expressions.Operator.TheVariants as between
 use Rattle.p4_program.specs.Syntax.Expressions.{CoreExpression, CoreOperations}
 use Rattle.p4_program.specs.Syntax.Expressions as core
-use Rattle.p4_rules.specs.Faults.{Checking, Checked, Right, fault_at, provided, and_then, made_of, both}
+use Rattle.p4_rules.specs.declared.faults.Pass.TheVariants.{Checking}
+use Rattle.p4_rules.specs.Faults.{Checked, Right, fault_at, provided, and_then, made_of, both}
 use Rattle.p4_rules.specs.Integers.{kept, is_negative, shifted_left, shifted_right, quotient, remainder, widest}
-use Rattle.p4_rules.specs.Types.{SourceType, Bit, Signed, Integer, Boolean, BitEnumeration, Structure, Header, Stack, Opaque, same_type, is_sized}
+use Rattle.p4_rules.specs.declared.types.SourceType.{SourceType}
+use Rattle.p4_rules.specs.declared.types.SourceType.TheVariants.{Bit, Signed, Integer, Boolean, BitEnumeration, Structure, Header, Stack, Opaque}
+use Rattle.p4_rules.specs.Types.{same_type, is_sized}
 use Rattle.p4_rules.specs.Scopes.{Scope}
 use Rattle.p4_rules.specs.Operands.{Operand, Whole, Fixed, Computed, Placed, type_of, varying_or, core_of}
 use Rattle.p4_rules.specs.Casts.{cast_to, as_bits, typing_fault, constant_fault}

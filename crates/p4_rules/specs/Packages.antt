@@ -1,5 +1,5 @@
 -- The package: the one `main`, its six blocks, and the instances that it makes of controls.
-use Rattle.std.specs.Prelude.{ℕ, zero, suc, ◌+◌, ◌-◌, ◌==◌, List, [], ◌∷◌, ◌++◌, map, length, unwrap_or, Bool, true, false, ◌&&◌, Option, None, Some, codes, if◌then◌else◌}
+use Rattle.std.specs.Prelude.{ℕ, zero, suc, ◌+◌, ◌-◌, ◌==◌, List, [], ◌∷◌, ◌++◌, map, length, unwrap_or, Bool, true, false, ◌&&◌, Option, None, Some, Result, codes, if◌then◌else◌}
 use Rattle.std.specs.List.{find, list_any, position, count_by}
 use Rattle.std.specs.Str.{bytes_eq}
 use Rattle.tg_base.specs.declared.place.Span.{Span}
@@ -19,9 +19,16 @@ use Rattle.p4_program.specs.declared.typed.instances.Blocks.{Blocks}
 use Rattle.p4_program.specs.declared.typed.instances.Instance.{Instance as CoreInstance}
 use Rattle.p4_program.specs.declared.typed.instances.NamedTable.{NamedTable}
 use Rattle.p4_rules.specs.Ascii.{ascii_bytes, is_ascii}
-use Rattle.p4_rules.specs.Faults.{Checking, Checked, Right, Wrong, fault_at, and_then, made_of, both, all_three, beside}
-use Rattle.p4_rules.specs.Types.{SourceType, Structure, Opaque, PacketIn, PacketOut, Package, ParserType, ControlType, same_type}
-use Rattle.p4_rules.specs.Scopes.{Scope, Allowed, Meaning, TypeOf, ParameterShape, found_in}
+use Rattle.p4_rules.specs.declared.faults.Pass.TheVariants.{Checking}
+use Rattle.p4_rules.specs.Faults.{Checked, Right, Wrong, fault_at, and_then, made_of, both, all_three, beside, of_told}
+use Rattle.p4_rules.specs.declared.faults.Fault.{Fault}
+use Rattle.p4_rules.specs.declared.types.SourceType.{SourceType}
+use Rattle.p4_rules.specs.declared.types.Object.TheVariants.{PacketIn, PacketOut, Package, ParserType, ControlType}
+use Rattle.p4_rules.specs.declared.types.SourceType.TheVariants.{Structure, Opaque}
+use Rattle.p4_rules.specs.Types.{same_type}
+use Rattle.p4_rules.specs.declared.scopes.Allowed.{Allowed}
+use Rattle.p4_rules.specs.declared.scopes.ParameterShape.{ParameterShape}
+use Rattle.p4_rules.specs.Scopes.{Scope, Meaning, TypeOf, found_in}
 use Rattle.p4_rules.specs.Expressions.{written_type}
 use Rattle.p4_rules.specs.Callees.{is_emittable}
 use Rattle.p4_rules.specs.Controls.{shapes_of, PlaneControl, PlaneTable, PlaneChild, PlaneAction, ListedPlace}
@@ -101,8 +108,8 @@ before_main roles Γ (top.Declaration d ∷ ps) =
 abbrev pub package_fault : {X : Type 0} → Span → Checked X
 package_fault place = fault_at Checking code.Package place
 
-abbrev pub block_or : Span → Option (Checked Meaning) → Checked Meaning
-block_or place (Some meaning) = meaning
+abbrev pub block_or : Span → Option (Result Meaning Fault) → Checked Meaning
+block_or place (Some meaning) = of_told meaning
 block_or place None = package_fault place
 
 -- a block is a parser or a control that is declared before; a faulty one leaves the package no fault of its own

@@ -24,12 +24,15 @@ use Rattle.p4_program.specs.Syntax.Callables.{CoreParser, CoreState, CoreTransit
 use Rattle.p4_program.specs.Syntax.Callables as core
 use Rattle.p4_program.specs.Syntax.Statements.{CoreStatements}
 use Rattle.p4_program.specs.Syntax.Statements as statements
-use Rattle.p4_rules.specs.Faults.{Checking, Checked, Right, fault_at, provided, and_then, made_of, both, all_three, given, all_of, beside}
+use Rattle.p4_rules.specs.declared.faults.Pass.TheVariants.{Checking}
+use Rattle.p4_rules.specs.Faults.{Checked, Right, fault_at, provided, and_then, made_of, both, all_three, given, all_of, beside}
 use Rattle.p4_rules.specs.Types.{is_scalar}
-use Rattle.p4_rules.specs.Scopes.{Scope, InParser, StateOf, ParameterShape, once, innermost, with_name, within}
+use Rattle.p4_rules.specs.declared.scopes.ParameterShape.{ParameterShape}
+use Rattle.p4_rules.specs.declared.scopes.Here.TheVariants.{InParser}
+use Rattle.p4_rules.specs.Scopes.{Scope, StateOf, once, innermost, with_name, within}
 use Rattle.p4_rules.specs.Operands.{Placed, type_of, core_of}
 use Rattle.p4_rules.specs.Casts.{typing_fault}
-use Rattle.p4_rules.specs.Declared.{value_in, with_constant, with_variable, constant_within, variable_within}
+use Rattle.p4_rules.specs.Variables.{value_in, with_constant, with_variable, constant_within, variable_within}
 use Rattle.p4_rules.specs.Counts.{count_of_list}
 use Rattle.p4_rules.specs.Statements.{passing, list_of, behind_list, variables_of}
 use Rattle.p4_rules.specs.Callables.{with_parameters, parameter_shapes, core_parameters}

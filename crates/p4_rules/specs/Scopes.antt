@@ -1,5 +1,5 @@
 -- Names and scopes: what a name stands for, and where it is found.
-use Rattle.std.specs.Prelude.{true, false, ℕ, List, [], ◌∷◌, Bool, Option, None, Some, ℤ, is_some, length, if◌then◌else◌, slice_get}
+use Rattle.std.specs.Prelude.{true, false, ℕ, List, [], ◌∷◌, ◌++◌, Bool, Option, None, Some, Result, ℤ, is_some, length, if◌then◌else◌, slice_get}
 use Rattle.std.specs.Str.{bytes_eq}
 use Rattle.std.specs.Map.{lookup}
 use Rattle.tg_base.specs.declared.place.Span.{Span}
@@ -11,20 +11,19 @@ use Rattle.p4_program.specs.declared.typed.types.Scalar.TheVariants as scalar
 use Rattle.p4_program.specs.declared.typed.types.ValueType.{ValueType}
 use Rattle.p4_program.specs.declared.typed.types.ValueType.TheVariants as value
 use Rattle.p4_rules.specs.Chains.{Depths}
-use Rattle.p4_rules.specs.Faults.{Pass, Folding, Checking, Checked, Right, fault_at}
-use Rattle.p4_rules.specs.Types.{SourceType, Bit, Signed, Boolean, Error, Enumeration, BitEnumeration, Structure, Header, Stack, Object, FieldOf}
-
--- a parameter of a parser, a control or an action, with the direction that stands before it
-pub record ParameterShape : Type 0 where
-  pub direction : Option Direction
-  pub type_of : SourceType
-  pub name : List ℕ
-
--- the functions of core.p4 and v1model.p4 that are called by their name alone
-pub data Function : Type 0 where
-  Verify MarkToDrop VerifyChecksum UpdateChecksum LogMsg Random : Function
-  -- one that this profile leaves out
-  LeftOut : Function
+use Rattle.p4_rules.specs.declared.faults.Pass.{Pass}
+use Rattle.p4_rules.specs.declared.faults.Pass.TheVariants.{Folding, Checking}
+use Rattle.p4_rules.specs.declared.faults.Fault.{Fault}
+use Rattle.p4_rules.specs.Faults.{Checked, Right, fault_at, told, of_told}
+use Rattle.p4_rules.specs.declared.scopes.Function.{Function}
+use Rattle.p4_rules.specs.declared.scopes.Here.{Here}
+use Rattle.p4_rules.specs.declared.scopes.Here.TheVariants.{InParser, InControl, InAction}
+use Rattle.p4_rules.specs.declared.scopes.ParameterShape.{ParameterShape}
+use Rattle.p4_rules.specs.declared.scopes.Allowed.{Allowed}
+use Rattle.p4_rules.specs.declared.types.SourceType.{SourceType}
+use Rattle.p4_rules.specs.declared.types.Object.{Object}
+use Rattle.p4_rules.specs.declared.types.FieldOf.{FieldOf}
+use Rattle.p4_rules.specs.declared.types.SourceType.TheVariants.{Bit, Signed, Boolean, Error, Enumeration, BitEnumeration, Structure, Header, Stack}
 
 -- what a name stands for
 pub data Meaning : Type 0 where
@@ -47,14 +46,10 @@ pub data Meaning : Type 0 where
   -- a state of the parser, by its number
   StateOf : ℕ → Meaning
 
--- The names of one scope. A name whose declaration is faulty has the faults of the declaration, and so has whatever uses it:
--- no further ones.
+-- The names of one scope in order. A name whose declaration is faulty has the first fault of the declaration, and so has
+-- whatever uses it: no further ones.
 abbrev pub Names : Type 0
-Names = List (List ℕ × Checked Meaning)
-
--- where something stands
-pub data Here : Type 0 where
-  AtTop InParser InControl InAction : Here
+Names = List (List ℕ × Result Meaning Fault)
 
 abbrev pub is_in_parser : Here → Bool
 is_in_parser InParser = true
@@ -69,12 +64,6 @@ abbrev pub is_in_control_or_action : Here → Bool
 is_in_control_or_action InControl = true
 is_in_control_or_action InAction = true
 is_in_control_or_action _ = false
-
--- the calls that only one block of the switch may have, and whether they may stand here
-pub record Allowed : Type 0 where
-  pub verify_checksum : Bool
-  pub update_checksum : Bool
-  pub emit : Bool
 
 -- What is known where a part of a source stands.
 pub record Scope : Type 0 where
@@ -109,20 +98,20 @@ abbrev pub folding : Scope → Scope
 folding Γ = record Γ { pass = Folding }
 
 -- "Name resolution": the innermost scope that has the name decides
-abbrev pub found_in : Names → List ℕ → Option (Checked Meaning)
+abbrev pub found_in : Names → List ℕ → Option (Result Meaning Fault)
 found_in names name = lookup (λ other. bytes_eq other name) names
 
 abbrev pub or_else : {X : Type 0} → Option X → Option X → Option X
 or_else (Some x) other = Some x
 or_else None other = other
 
-abbrev pub found_within : List Names → List ℕ → Option (Checked Meaning)
+abbrev pub found_within : List Names → List ℕ → Option (Result Meaning Fault)
 found_within [] name = None
 found_within (names ∷ outer) name = or_else (found_in names name) (found_within outer name)
 
 -- a name that is not declared before its use is refused
-abbrev pub declared_or : Pass → Span → Option (Checked Meaning) → Checked Meaning
-declared_or pass place (Some meaning) = meaning
+abbrev pub declared_or : Pass → Span → Option (Result Meaning Fault) → Checked Meaning
+declared_or pass place (Some meaning) = of_told meaning
 declared_or pass place None = fault_at pass code.Name place
 
 -- what a name stands for where a value may stand
@@ -145,7 +134,7 @@ innermost (names ∷ outer) = names
 
 abbrev pub put_innermost : List Names → List ℕ → Checked Meaning → List Names
 put_innermost [] name meaning = []
-put_innermost (names ∷ outer) name meaning = ((name, meaning) ∷ names) ∷ outer
+put_innermost (names ∷ outer) name meaning = (names ++ (name, told meaning) ∷ []) ∷ outer
 
 -- "Scoping": a name is declared once in one scope. The fault of a second declaration is that of its name, and the first
 -- declaration stays.
@@ -159,7 +148,7 @@ with_name Γ name meaning =
 
 -- the scope with one more name at the top
 abbrev pub with_top_name : Scope → List ℕ → Checked Meaning → Scope
-with_top_name Γ name meaning = if is_some (found_in Γ.top name) then Γ else record Γ { top = (name, meaning) ∷ Γ.top }
+with_top_name Γ name meaning = if is_some (found_in Γ.top name) then Γ else record Γ { top = Γ.top ++ (name, told meaning) ∷ [] }
 
 -- a new scope within
 abbrev pub within : Scope → Scope

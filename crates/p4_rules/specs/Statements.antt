@@ -25,13 +25,14 @@ use Rattle.p4_program.specs.declared.typed.types.ValueType.{ValueType}
 use Rattle.p4_program.specs.Syntax.Expressions.{CoreExpression}
 use Rattle.p4_program.specs.Syntax.Statements.{CoreWork, CoreStatement, CoreStatements, CoreCases}
 use Rattle.p4_program.specs.Syntax.Statements as core
-use Rattle.p4_rules.specs.Faults.{Checking, Checked, Right, fault_at, and_then, made_of, both, all_three, with_both, beside}
-use Rattle.p4_rules.specs.Types.{Boolean}
+use Rattle.p4_rules.specs.declared.faults.Pass.TheVariants.{Checking}
+use Rattle.p4_rules.specs.Faults.{Checked, Right, fault_at, and_then, made_of, both, all_three, with_both, beside}
+use Rattle.p4_rules.specs.declared.types.SourceType.TheVariants.{Boolean}
 use Rattle.p4_rules.specs.Scopes.{Scope, is_in_parser, within}
 use Rattle.p4_rules.specs.Operands.{Operand, Stored, Sliced, Placed, type_of, core_of}
 use Rattle.p4_rules.specs.Casts.{typing_fault}
 use Rattle.p4_rules.specs.Things.{Thing, Value, WorkOf, Applied, ActionRun, Judged, misfit}
-use Rattle.p4_rules.specs.Declared.{judged_expression, value_in, value_for, with_constant, with_variable, constant_within, variable_within}
+use Rattle.p4_rules.specs.Variables.{judged_expression, value_in, value_for, with_constant, with_variable, constant_within, variable_within}
 use Rattle.p4_rules.specs.Counts.{Count, count_of, count_of_parts}
 use Rattle.p4_rules.specs.Notes.{noted}
 

@@ -24,9 +24,13 @@ use Rattle.p4_tree.specs.declared.statements.StatementKind.{StatementKind, end_o
 use Rattle.p4_tree.specs.declared.statements.StatementKind.TheVariants as statement
 use Rattle.p4_tree.specs.declared.statements.SwitchCase.{SwitchCase', Held-SwitchCase-body, SwitchCase-body-None', SwitchCase-body-Some'}
 use Rattle.p4_rules.specs.Faults.{Checked, Right, Wrong, beside}
-use Rattle.p4_rules.specs.Types.{SourceType, Structure, Header, Stack, FieldOf}
-use Rattle.p4_rules.specs.Scopes.{Scope, Allowed, ParameterShape, within, listed, or_else}
-use Rattle.p4_rules.specs.Declared.{variable_type, with_constant, with_variable}
+use Rattle.p4_rules.specs.declared.types.SourceType.{SourceType}
+use Rattle.p4_rules.specs.declared.types.FieldOf.{FieldOf}
+use Rattle.p4_rules.specs.declared.types.SourceType.TheVariants.{Structure, Header, Stack}
+use Rattle.p4_rules.specs.declared.scopes.Allowed.{Allowed}
+use Rattle.p4_rules.specs.declared.scopes.ParameterShape.{ParameterShape}
+use Rattle.p4_rules.specs.Scopes.{Scope, within, listed, or_else}
+use Rattle.p4_rules.specs.Variables.{variable_type, with_constant, with_variable}
 use Rattle.p4_rules.specs.Statements.{behind_part}
 use Rattle.p4_rules.specs.Callables.{with_parameters, action_scope}
 use Rattle.p4_rules.specs.Parsers.{parser_scope, parser_shapes, number_behind, scope_behind as behind_parser_part}

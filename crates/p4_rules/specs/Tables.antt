@@ -27,15 +27,19 @@ use Rattle.p4_program.specs.declared.typed.tables.MatchKind.{MatchKind}
 use Rattle.p4_program.specs.declared.typed.tables.MatchKind.TheVariants as match
 use Rattle.p4_program.specs.declared.typed.tables.Pattern.{Pattern}
 use Rattle.p4_program.specs.Syntax.Callables.{CoreKey, CoreTable}
-use Rattle.p4_rules.specs.Faults.{Checking, Checked, Right, fault_at, given, and_then, made_of, both, with_both, all_of, beside}
-use Rattle.p4_rules.specs.Types.{SourceType, Bit, Signed, Boolean, Integer, DirectCounter}
-use Rattle.p4_rules.specs.Scopes.{Scope, Meaning, ActionOf, TableOf, ObjectOf, ParameterShape, meaning_of, or_else}
+use Rattle.p4_rules.specs.declared.faults.Pass.TheVariants.{Checking}
+use Rattle.p4_rules.specs.Faults.{Checked, Right, fault_at, given, and_then, made_of, both, with_both, all_of, beside}
+use Rattle.p4_rules.specs.declared.types.SourceType.{SourceType}
+use Rattle.p4_rules.specs.declared.types.Object.TheVariants.{DirectCounter}
+use Rattle.p4_rules.specs.declared.types.SourceType.TheVariants.{Bit, Signed, Boolean, Integer}
+use Rattle.p4_rules.specs.declared.scopes.ParameterShape.{ParameterShape}
+use Rattle.p4_rules.specs.Scopes.{Scope, Meaning, ActionOf, TableOf, ObjectOf, meaning_of, or_else}
 use Rattle.p4_rules.specs.Operands.{Operand, type_of, core_of}
 use Rattle.p4_rules.specs.Operators.{width_in}
 use Rattle.p4_rules.specs.Casts.{as_bits, typing_fault}
-use Rattle.p4_rules.specs.Things.{Thing, Named, Judged, judged_list, value_of, number_of, misfit}
+use Rattle.p4_rules.specs.Things.{Thing, Named, Judged, value_of, number_of, misfit}
 use Rattle.p4_rules.specs.Expressions.{judged, all_judged}
-use Rattle.p4_rules.specs.Declared.{judged_expression, value_in}
+use Rattle.p4_rules.specs.Variables.{judged_expression, value_in}
 use Rattle.p4_rules.specs.Keys.{Form, form_of, constant_for, entry_pattern, bits_at, same_patterns}
 use Rattle.p4_rules.specs.Spellings.{with_text, spelled}
 use Rattle.p4_rules.specs.Notes.{noted, given_name, is_default_only}
@@ -155,7 +159,7 @@ pub record Called : Type 0 where
 
 abbrev pub called_parts : Scope → Span → Name → {n : _} → Row_of-PostfixPart n → Checked Called
 called_parts Γ place name (more_of-PostfixPart (postfix.Call' count row) s end_of-PostfixPart) =
-    made_of (λ things. record { name = name; arguments = Some (judged_list things) }) (all_judged Γ row)
+    made_of (λ js. record { name = name; arguments = Some js }) (all_judged Γ row)
 called_parts Γ place name _ = typing_fault place
 
 abbrev pub called_in : Scope → ExpressionKind → Span → Checked Called

@@ -1,5 +1,5 @@
 -- What an expression stands for: a value, or something that has none by itself, as a method before its arguments.
-use Rattle.std.specs.Prelude.{ℕ, ◌==◌, List, [], ◌∷◌, ◌++◌, Bool, ◌&&◌, ◌||◌, Option, None, Some, ℤ, pos, unsigned_abs, codes, if◌then◌else◌, slice_get}
+use Rattle.std.specs.Prelude.{ℕ, ◌==◌, List, [], ◌∷◌, ◌++◌, Bool, ◌&&◌, ◌||◌, Option, None, Some, Result, ℤ, pos, unsigned_abs, codes, if◌then◌else◌, slice_get}
 use Rattle.std.specs.Str.{bytes_eq}
 use Rattle.std.specs.Map.{lookup}
 use Rattle.std.specs.List.{position}
@@ -21,10 +21,18 @@ use Rattle.p4_program.specs.declared.typed.types.ValueType.{ValueType}
 use Rattle.p4_program.specs.Syntax.Expressions.{CoreExpression}
 use Rattle.p4_program.specs.Syntax.Expressions as core
 use Rattle.p4_program.specs.Syntax.Statements.{CoreWork}
-use Rattle.p4_rules.specs.Faults.{Folding, Checking, Checked, Right, fault_at, provided, and_then, made_of}
+use Rattle.p4_rules.specs.declared.faults.Pass.TheVariants.{Folding, Checking}
+use Rattle.p4_rules.specs.Faults.{Checked, Right, fault_at, provided, and_then, made_of}
+use Rattle.p4_rules.specs.declared.faults.Fault.{Fault}
 use Rattle.p4_rules.specs.Integers.{fits_bit, fits_int}
-use Rattle.p4_rules.specs.Types.{SourceType, Bit, Signed, Boolean, Error, Enumeration, BitEnumeration, Structure, Header, Stack, Opaque, PacketIn, PacketOut, Counter, DirectCounter, Meter, ParserType, ControlType, FieldOf, field_place}
-use Rattle.p4_rules.specs.Scopes.{Scope, is_in_parser, Meaning, IntegerOf, ConstantOf, VariableOf, ObjectOf, TableOf, InstanceOf, FunctionOf, LeftOut, ParameterShape, value_type, listed}
+use Rattle.p4_rules.specs.declared.types.SourceType.{SourceType}
+use Rattle.p4_rules.specs.declared.types.FieldOf.{FieldOf}
+use Rattle.p4_rules.specs.declared.types.Object.TheVariants.{PacketIn, PacketOut, Counter, DirectCounter, Meter, ParserType, ControlType}
+use Rattle.p4_rules.specs.declared.types.SourceType.TheVariants.{Bit, Signed, Boolean, Error, Enumeration, BitEnumeration, Structure, Header, Stack, Opaque}
+use Rattle.p4_rules.specs.Types.{field_place}
+use Rattle.p4_rules.specs.declared.scopes.ParameterShape.{ParameterShape}
+use Rattle.p4_rules.specs.declared.scopes.Function.TheVariants.{LeftOut}
+use Rattle.p4_rules.specs.Scopes.{Scope, is_in_parser, Meaning, IntegerOf, ConstantOf, VariableOf, ObjectOf, TableOf, InstanceOf, FunctionOf, value_type, listed}
 use Rattle.p4_rules.specs.Operands.{Operand, Whole, Fixed, Stored, Computed, Placed, type_of, varying_or, constant_number}
 use Rattle.p4_rules.specs.Casts.{typing_fault, constant_fault}
 
@@ -43,45 +51,35 @@ pub data Method : Type 0 where
   ApplyTable : ℕ → List (List ℕ × ℕ) → Method
   ApplyControl : ℕ → List ParameterShape → Method
 
-mutual
-  pub data Thing : Type 0 where
-    Value : Operand → Thing
-    -- a type's name before a `.`, and `error` there
-    TypeName : SourceType → Thing
-    Errors : Thing
-    -- a name that has no value
-    Named : Meaning → Thing
-    MethodOf : Method → Thing
-    -- the element of a stack that is filled next, and whether it may be assigned to
-    NextOf : SourceType → Bool → Path → Thing
-    -- `t.apply()`, and the action that it ran
-    Applied ActionRun : ℕ → List (List ℕ × ℕ) → Thing
-    -- a call that is a statement
-    WorkOf : CoreWork → Thing
-    Text : Thing
-    -- a list in braces, which checksums and `log_msg` take alone
-    Braced : Things → Thing
-
-  -- things with their first tokens
-  pub data Things : Type 0 where
-    Nothing : Things
-    Another : Thing → Span → Things → Things
+pub data Thing : Type 0 where
+  Value : Operand → Thing
+  -- a type's name before a `.`, and `error` there
+  TypeName : SourceType → Thing
+  Errors : Thing
+  -- a name that has no value
+  Named : Meaning → Thing
+  MethodOf : Method → Thing
+  -- the element of a stack that is filled next, and whether it may be assigned to
+  NextOf : SourceType → Bool → Path → Thing
+  -- `t.apply()`, and the action that it ran
+  Applied ActionRun : ℕ → List (List ℕ × ℕ) → Thing
+  -- a call that is a statement
+  WorkOf : CoreWork → Thing
+  Text : Thing
+  -- a list in braces, which checksums and `log_msg` take alone: the value of each part, or why it has none
+  Braced : List (Result Placed Fault) → Thing
 
 -- what an expression stands for, and its first token within all parentheses
 pub record Judged : Type 0 where
   pub thing : Thing
   pub place : Span
 
-abbrev pub judged_list : Things → List Judged
-judged_list Nothing = []
-judged_list (Another thing place things) = record { thing = thing; place = place } ∷ judged_list things
-
 abbrev pub value_at : Span → Operand → Judged
 value_at place x = record { thing = Value x; place = place }
 
 -- what stands where it cannot: a list is left out, and anything else has no type that fits
 abbrev pub misfit : {X : Type 0} → Span → Thing → Checked X
-misfit place (Braced things) = fault_at Checking code.Unsupported place
+misfit place (Braced values) = fault_at Checking code.Unsupported place
 misfit place _ = typing_fault place
 
 abbrev pub thing_value : Span → Thing → Checked Placed
@@ -260,7 +258,7 @@ member_of Γ (TypeName t) place name = type_member Γ t place name
 member_of Γ Errors place name = error_member Γ name (position (λ other. bytes_eq other name.text) Γ.errors)
 member_of Γ (Named m) place name = named_member Γ m name
 member_of Γ (Applied n actions) place name = applied_member Γ n actions place name
-member_of Γ (Braced things) place name = fault_at Checking code.Unsupported place
+member_of Γ (Braced values) place name = fault_at Checking code.Unsupported place
 member_of Γ _ place name = unknown_member Γ name
 
 abbrev pub lookahead_of : Scope → Thing → SourceType → Span → Checked Thing

@@ -21,12 +21,19 @@ use Rattle.p4_tree.specs.declared.parsers.ParserPartKind.{ParserPartKind}
 use Rattle.p4_tree.specs.declared.parsers.ParserPartKind.TheVariants as part
 use Rattle.p4_program.specs.Syntax.Callables.{CoreCallable}
 use Rattle.p4_program.specs.Syntax.Callables as core
-use Rattle.p4_rules.specs.Faults.{Folding, Checking, Checked, Right, Wrong, fault_at, provided, and_then, made_of, both, all_of, beside}
-use Rattle.p4_rules.specs.Types.{SourceType, Bit, Enumeration, BitEnumeration, Structure, Header, Opaque, ParserType, ControlType, FieldOf, may_be_in_header, is_run_time, has_whole_bytes}
-use Rattle.p4_rules.specs.Scopes.{Scope, Allowed, Meaning, TypeOf, ParameterShape, folding, once, with_top_name, with_callable_depth}
+use Rattle.p4_rules.specs.declared.faults.Pass.TheVariants.{Folding, Checking}
+use Rattle.p4_rules.specs.Faults.{Checked, Right, Wrong, fault_at, provided, and_then, made_of, both, all_of, beside}
+use Rattle.p4_rules.specs.declared.types.SourceType.{SourceType}
+use Rattle.p4_rules.specs.declared.types.FieldOf.{FieldOf}
+use Rattle.p4_rules.specs.declared.types.Object.TheVariants.{ParserType, ControlType}
+use Rattle.p4_rules.specs.declared.types.SourceType.TheVariants.{Bit, Enumeration, BitEnumeration, Structure, Header, Opaque}
+use Rattle.p4_rules.specs.Types.{may_be_in_header, is_run_time, has_whole_bytes}
+use Rattle.p4_rules.specs.declared.scopes.Allowed.{Allowed}
+use Rattle.p4_rules.specs.declared.scopes.ParameterShape.{ParameterShape}
+use Rattle.p4_rules.specs.Scopes.{Scope, Meaning, TypeOf, folding, once, with_top_name, with_callable_depth}
 use Rattle.p4_rules.specs.Casts.{typing_fault}
 use Rattle.p4_rules.specs.Expressions.{written_type, width_of}
-use Rattle.p4_rules.specs.Declared.{judged_expression, value_in, constant_value_of}
+use Rattle.p4_rules.specs.Variables.{judged_expression, value_in, constant_value_of}
 use Rattle.p4_rules.specs.Keys.{constant_for}
 use Rattle.p4_rules.specs.Callables.{ActionMade, action_of, action_meaning, behind_action}
 use Rattle.p4_rules.specs.Parsers.{ParserMade, parser_of}

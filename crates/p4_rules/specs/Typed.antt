@@ -10,8 +10,10 @@ use Rattle.p4_program.specs.Syntax.Callables.{CoreCallable}
 use Rattle.p4_program.specs.Syntax.Callables as core
 use Rattle.p4_program.specs.Syntax.Statements as statements
 use Rattle.p4_program.specs.Syntax.Programs.{CoreProgram}
-use Rattle.p4_rules.specs.Faults.{Fault, Checked, Right, Wrong, faults_of, both, beside, Decides}
-use Rattle.p4_rules.specs.Types.{FieldOf, header_bits}
+use Rattle.p4_rules.specs.declared.faults.Fault.{Fault}
+use Rattle.p4_rules.specs.Faults.{Checked, Right, Wrong, faults_of, both, beside, Decides}
+use Rattle.p4_rules.specs.declared.types.FieldOf.{FieldOf}
+use Rattle.p4_rules.specs.Types.{header_bits}
 use Rattle.p4_rules.specs.Scopes.{Scope, value_type}
 use Rattle.p4_rules.specs.Core.{core_errors, core_scope}
 use Rattle.p4_rules.specs.Tops.{Roles, Pieces, tops, right_pieces, behind_tops}

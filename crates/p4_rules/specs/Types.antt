@@ -3,37 +3,11 @@
 use Rattle.std.specs.Prelude.{ℕ, ◌==◌, ◌%◌, List, Bool, true, false, ◌&&◌, Option, None, Some, position}
 use Rattle.std.specs.Str.{bytes_eq}
 use Rattle.std.specs.List.{sum_by}
-
--- What has a type's name but no value.
-pub data Object : Type 0 where
-  PacketIn PacketOut : Object
-  Counter DirectCounter : Object
-  -- `meter`; the type of what a meter reads is given where it is read
-  Meter Register : Object
-  -- `V1Switch`
-  Package : Object
-  -- a parser or a control of the source, by its number
-  ParserType ControlType : ℕ → Object
-
-pub data SourceType : Type 0 where
-  -- `bit<w>` and `int<w>`
-  Bit Signed : ℕ → SourceType
-  -- `int`, the integers of compile time
-  Integer : SourceType
-  Boolean : SourceType
-  Error : SourceType
-  -- an enumeration without a width, and one over `bit<w>`
-  Enumeration : ℕ → SourceType
-  BitEnumeration : ℕ → ℕ → SourceType
-  Structure Header : ℕ → SourceType
-  -- a stack of headers, with its size
-  Stack : ℕ → ℕ → SourceType
-  Opaque : Object → SourceType
-
--- a field of a struct or of a header
-pub record FieldOf : Type 0 where
-  pub name : List ℕ
-  pub type_of : SourceType
+use Rattle.p4_rules.specs.declared.types.Object.{Object}
+use Rattle.p4_rules.specs.declared.types.Object.TheVariants.{PacketIn, PacketOut, Counter, DirectCounter, Meter, Register, Package, ParserType, ControlType}
+use Rattle.p4_rules.specs.declared.types.SourceType.{SourceType}
+use Rattle.p4_rules.specs.declared.types.SourceType.TheVariants.{Bit, Signed, Integer, Boolean, Error, Enumeration, BitEnumeration, Structure, Header, Stack, Opaque}
+use Rattle.p4_rules.specs.declared.types.FieldOf.{FieldOf}
 
 -- the place of a field of this name among the fields
 abbrev pub field_place : List FieldOf → List ℕ → Option ℕ

@@ -3,7 +3,7 @@
 ghost use Rattle.std.specs.Prelude.{◌≡◌, ◌⊎◌};
 ghost use Rattle.p4_tree.specs.declared.declarations.Source.{Source};
 ghost use Rattle.p4_program.specs.Syntax.Programs.{CoreProgram};
-ghost use Rattle.p4_rules.specs.Faults.{Fault};
+ghost use Rattle.p4_rules.specs.declared.faults.Fault.{Fault};
 ghost use Rattle.tg_base.specs.declared.place.Code.TheVariants.{Limit, Name, Constant, Typing, Unsupported, Package};
 ghost use Rattle.p4_rules.specs.Typed.{Elaborates, Faults};
 ghost use Rattle.p4_rules.specs.Examples.{skeleton, empty, too_large, no_field, another_type, truncated, too_wide};

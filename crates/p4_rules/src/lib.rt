@@ -5,4 +5,11 @@
 //! stand above.
 #![tactic(auto)]
 
+mod faults;
 pub mod laws;
+mod scopes;
+mod types;
+
+pub use faults::{Fault, Pass};
+pub use scopes::{Allowed, Function, Here, ParameterShape};
+pub use types::{FieldOf, Object, SourceType};

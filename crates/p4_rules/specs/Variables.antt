@@ -11,9 +11,14 @@ use Rattle.p4_program.specs.declared.typed.paths.Root.TheVariants as root
 use Rattle.p4_program.specs.Syntax.Expressions.{CoreExpression}
 use Rattle.p4_program.specs.Syntax.Statements.{CoreStatement}
 use Rattle.p4_program.specs.Syntax.Statements as core
-use Rattle.p4_rules.specs.Faults.{Checking, Checked, Right, provided, and_then, made_of, with_both, beside}
-use Rattle.p4_rules.specs.Types.{SourceType, Opaque, is_run_time}
-use Rattle.p4_rules.specs.Scopes.{Scope, Here, InAction, Meaning, IntegerOf, ConstantOf, VariableOf, folding, once, innermost, with_name, value_type}
+use Rattle.p4_rules.specs.declared.faults.Pass.TheVariants.{Checking}
+use Rattle.p4_rules.specs.Faults.{Checked, Right, provided, and_then, made_of, with_both, beside}
+use Rattle.p4_rules.specs.declared.types.SourceType.{SourceType}
+use Rattle.p4_rules.specs.declared.types.SourceType.TheVariants.{Opaque}
+use Rattle.p4_rules.specs.Types.{is_run_time}
+use Rattle.p4_rules.specs.declared.scopes.Here.{Here}
+use Rattle.p4_rules.specs.declared.scopes.Here.TheVariants.{InAction}
+use Rattle.p4_rules.specs.Scopes.{Scope, Meaning, IntegerOf, ConstantOf, VariableOf, folding, once, innermost, with_name, value_type}
 use Rattle.p4_rules.specs.Operands.{Operand, Whole, Fixed, Placed, varying_or, core_of}
 use Rattle.p4_rules.specs.Casts.{cast_to, typing_fault, constant_fault}
 use Rattle.p4_rules.specs.Things.{Judged, value_of}
