@@ -5,7 +5,6 @@ use Rattle.std.specs.Map.{lookup}
 use Rattle.tg_base.specs.declared.place.Span.{Span}
 use Rattle.tg_base.specs.declared.place.Code.TheVariants as code
 use Rattle.p4_tree.specs.declared.names.Name.{Name}
-use Rattle.p4_tree.specs.declared.declarations.Direction.{Direction}
 use Rattle.p4_program.specs.declared.typed.paths.Root.{Root}
 use Rattle.p4_program.specs.declared.typed.types.Scalar.TheVariants as scalar
 use Rattle.p4_program.specs.declared.typed.types.ValueType.{ValueType}

@@ -22,7 +22,7 @@ use Rattle.p4_tree.specs.declared.statements.BlockPartKind.{BlockPartKind}
 use Rattle.p4_tree.specs.declared.statements.BlockPartKind.TheVariants as part
 use Rattle.p4_tree.specs.declared.statements.StatementKind.{StatementKind, end_of-Statement, more_of-Statement, Held-StatementKind-If-2, StatementKind-If-2-None', StatementKind-If-2-Some', Row_of-SwitchCase, end_of-SwitchCase, more_of-SwitchCase}
 use Rattle.p4_tree.specs.declared.statements.StatementKind.TheVariants as statement
-use Rattle.p4_tree.specs.declared.statements.SwitchCase.{SwitchCase', Held-SwitchCase-body, SwitchCase-body-None', SwitchCase-body-Some'}
+use Rattle.p4_tree.specs.declared.statements.SwitchCase.{SwitchCase', SwitchCase-body-None', SwitchCase-body-Some'}
 use Rattle.p4_rules.specs.Faults.{Checked, Right, Wrong, beside}
 use Rattle.p4_rules.specs.declared.types.SourceType.{SourceType}
 use Rattle.p4_rules.specs.declared.types.FieldOf.{FieldOf}
