@@ -25,7 +25,7 @@ use Rattle.p4_rules.specs.Types.{same_type, same_object, is_sized, is_run_time}
 use Rattle.p4_rules.specs.declared.scopes.Function.{Function}
 use Rattle.p4_rules.specs.declared.scopes.ParameterShape.{ParameterShape}
 use Rattle.p4_rules.specs.declared.scopes.Function.TheVariants.{Verify, MarkToDrop, VerifyChecksum, UpdateChecksum, LogMsg, Random, LeftOut}
-use Rattle.p4_rules.specs.Scopes.{Scope, is_in_parser, is_in_control, is_in_control_or_action, Meaning, ObjectOf, ActionOf, FunctionOf}
+use Rattle.p4_rules.specs.Scopes.{Scope, is_in_parser, is_in_control, is_in_control_or_action, Meaning, ObjectOf, ActionOf, FunctionOf, shapes_of}
 use Rattle.p4_rules.specs.Operands.{Operand, Fixed, Stored, Computed, Placed, type_of, core_of}
 use Rattle.p4_rules.specs.Casts.{cast_to, as_bits, typing_fault, constant_fault}
 use Rattle.p4_rules.specs.Operators.{is_of_bits, width_in}
@@ -199,9 +199,9 @@ method_call Γ ExecuteMeter place passed =
 method_call Γ (ApplyTable n actions) place passed =
     chained (depth_in Γ.depths.tables n) place
     (only_where (is_in_control Γ.here) place (no_arguments place passed (Applied n actions)))
-method_call Γ (ApplyControl n shapes) place passed =
+method_call Γ (ApplyControl n control) place passed =
     chained (depth_in Γ.depths.children n) place
-    (only_where (is_in_control Γ.here) place (a_call (made_of (λ those. work.ApplyControl n those) (arguments Γ place shapes passed))))
+    (only_where (is_in_control Γ.here) place (a_call (made_of (λ those. work.ApplyControl n those) (arguments Γ place (shapes_of Γ control) passed))))
 
 -- "Checksums" of v1model: a list of `bit` values of whole 16-bit words, at least one; any other data is left out
 abbrev pub words_of : Scope → List (Result Placed Fault) → Checked (List Operand)

@@ -7,7 +7,7 @@ use Rattle.p4_program.specs.Syntax.Expressions.{CoreExpression}
 use Rattle.p4_program.specs.Syntax.Expressions as core
 use Rattle.p4_rules.specs.declared.faults.Pass.TheVariants.{Checking}
 use Rattle.p4_rules.specs.Faults.{Checked, Right, fault_at, provided}
-use Rattle.p4_rules.specs.Integers.{fits_bit, fits_int}
+use Rattle.p4_rules.specs.Integers.{fits_bit, fits_int, is_width}
 use Rattle.p4_rules.specs.declared.types.SourceType.{SourceType}
 use Rattle.p4_rules.specs.declared.types.SourceType.TheVariants.{Bit, Signed, Integer, Boolean, BitEnumeration}
 use Rattle.p4_rules.specs.Types.{same_type}
@@ -55,12 +55,12 @@ resized Γ signed w v t place x =
 -- "Explicit casts", by the type that is cast to and the type of the operand
 abbrev pub value_cast : Scope → SourceType → SourceType → Span → Operand → Checked Operand
 -- from `bit` to `bit`, cut or widened by zeros; from `int` of the same width; from `bool` to one bit
-value_cast Γ (Bit v) (Bit w) place x = Right (resized Γ false w v (Bit v) place x)
+value_cast Γ (Bit v) (Bit w) place x = provided (is_width v) Checking code.Typing place (resized Γ false w v (Bit v) place x)
 value_cast Γ (Bit v) (Signed w) place x = provided (v == w) Checking code.Typing place (retyped Γ (Bit v) x)
 value_cast Γ (Bit v) Boolean place x = provided (v == 1) Checking code.Typing place (retyped Γ (Bit v) x)
 value_cast Γ (Bit v) (BitEnumeration n w) place x = provided (v == w) Checking code.Typing place (retyped Γ (Bit v) x)
 -- from `int` to `int`, cut or widened by the sign; from `bit` of the same width
-value_cast Γ (Signed v) (Signed w) place x = Right (resized Γ true w v (Signed v) place x)
+value_cast Γ (Signed v) (Signed w) place x = provided (is_width v) Checking code.Typing place (resized Γ true w v (Signed v) place x)
 value_cast Γ (Signed v) (Bit w) place x = provided (v == w) Checking code.Typing place (retyped Γ (Signed v) x)
 -- from one bit to `bool`
 value_cast Γ Boolean (Bit w) place x = provided (w == 1) Checking code.Typing place (retyped Γ Boolean x)

@@ -1,6 +1,5 @@
 -- Controls, and instances of what has a constructor.
 use Rattle.std.specs.Prelude.{map, ℕ, ◌+◌, ◌==◌, List, [], ◌∷◌, ◌++◌, length, unwrap_or, Bool, true, false, Option, Some, unsigned_abs, if◌then◌else◌}
-use Rattle.std.specs.Map.{lookup}
 use Rattle.std.specs.List.{sum_by, count_by}
 use Rattle.tg_base.specs.declared.place.Span.{Span}
 use Rattle.tg_base.specs.declared.place.Code.TheVariants as code
@@ -90,10 +89,6 @@ counter_kind = Enumeration 1
 abbrev pub meter_kind : SourceType
 meter_kind = Enumeration 2
 
--- the parameters of a control
-abbrev pub shapes_of : Scope → ℕ → List ParameterShape
-shapes_of Γ control = unwrap_or (lookup (λ n. n == control) Γ.shapes) []
-
 -- what an instance is: an extern's, or a control's
 pub data Instanced : Type 0 where
   OfExtern : Object → Instanced
@@ -126,7 +121,7 @@ instance_of Γ inside i = beside (argument_parts Γ i.arguments) (and_then (writ
 
 abbrev pub instanced_meaning : Scope → Instanced → Meaning
 instanced_meaning Γ (OfExtern object) = ObjectOf object
-instanced_meaning Γ (OfControl n) = InstanceOf Γ.child (shapes_of Γ n)
+instanced_meaning Γ (OfControl n) = InstanceOf Γ.child n
 
 -- a place of an action in a table's list: its number, and where it stands
 pub record ListedPlace : Type 0 where

@@ -1,5 +1,5 @@
 -- What core.p4 and v1model.p4 declare before each source.
-use Rattle.std.specs.Prelude.{ℕ, List, [], ◌∷◌, ◌++◌, map, true, ℤ, pos, codes, Ok}
+use Rattle.std.specs.Prelude.{ℕ, List, [], ◌∷◌, ◌++◌, map, true, codes, Ok}
 use Rattle.p4_rules.specs.Chains.{no_depths}
 use Rattle.p4_rules.specs.declared.faults.Pass.TheVariants.{Checking}
 use Rattle.p4_rules.specs.declared.types.SourceType.{SourceType}
@@ -10,7 +10,7 @@ use Rattle.p4_rules.specs.declared.scopes.Allowed.{Allowed}
 use Rattle.p4_rules.specs.declared.scopes.Function.{Function}
 use Rattle.p4_rules.specs.declared.scopes.Function.TheVariants.{Verify, MarkToDrop, VerifyChecksum, UpdateChecksum, LogMsg, Random, LeftOut}
 use Rattle.p4_rules.specs.declared.scopes.Here.TheVariants.{AtTop}
-use Rattle.p4_rules.specs.Scopes.{Scope, TypeOf, ActionOf, FunctionOf, Names}
+use Rattle.p4_rules.specs.Scopes.{Scope, Meaning, TypeOf, ConstantOf, ActionOf, FunctionOf, Names}
 
 abbrev pub bits_field : List ℕ → ℕ → FieldOf
 bits_field name w = record { name = name; type_of = Bit w }
@@ -37,14 +37,18 @@ standard_metadata =
     ∷ []
 
 -- v1model.p4: the algorithms of checksums that are kept, and the kinds of counters and of meters
-abbrev pub algorithms : List (List ℕ × ℤ)
-algorithms = (codes "csum16", pos 0) ∷ (codes "xor16", pos 1) ∷ []
+abbrev pub algorithms : List (List ℕ × Meaning)
+algorithms = (codes "csum16", ConstantOf (Enumeration 0) 0) ∷ (codes "xor16", ConstantOf (Enumeration 0) 1) ∷ []
 
-abbrev pub counter_types : List (List ℕ × ℤ)
-counter_types = (codes "packets", pos 0) ∷ (codes "bytes", pos 1) ∷ (codes "packets_and_bytes", pos 2) ∷ []
+abbrev pub counter_types : List (List ℕ × Meaning)
+counter_types =
+    (codes "packets", ConstantOf (Enumeration 1) 0)
+    ∷ (codes "bytes", ConstantOf (Enumeration 1) 1)
+    ∷ (codes "packets_and_bytes", ConstantOf (Enumeration 1) 2)
+    ∷ []
 
-abbrev pub meter_types : List (List ℕ × ℤ)
-meter_types = (codes "packets", pos 0) ∷ (codes "bytes", pos 1) ∷ []
+abbrev pub meter_types : List (List ℕ × Meaning)
+meter_types = (codes "packets", ConstantOf (Enumeration 2) 0) ∷ (codes "bytes", ConstantOf (Enumeration 2) 1) ∷ []
 
 -- core.p4: the errors that each source has
 abbrev pub core_errors : List (List ℕ)

@@ -1,5 +1,5 @@
 -- Compile-time integers: `int` without a width, whose values this profile ends at 128 bits.
-use Rattle.std.specs.Prelude.{ℕ, ◌-◌, ◌^◌, ℤ, pos, neg_ℤ, ◌*ℤ◌, int_lt, int_le, nat_lt, min, Bool, ◌&&◌, unsigned_abs, if◌then◌else◌}
+use Rattle.std.specs.Prelude.{ℕ, ◌-◌, ◌^◌, ℤ, pos, neg_ℤ, ◌*ℤ◌, int_lt, int_le, nat_le, nat_lt, min, Bool, ◌&&◌, unsigned_abs, if◌then◌else◌}
 use Rattle.std.specs.Int.{int_div_euclid, int_rem_euclid}
 use Rattle.tg_base.specs.declared.place.Code.TheVariants.{Constant}
 use Rattle.tg_base.specs.declared.place.Span.{Span}
@@ -18,13 +18,17 @@ is_kept z = nat_lt (unsigned_abs z) (2 ^ widest)
 abbrev pub kept : Pass → Span → ℤ → Checked ℤ
 kept pass place z = if is_kept z then Right z else fault_at pass Constant place
 
+-- a type of bits has from 1 bit to as many as the widest number
+abbrev pub is_width : ℕ → Bool
+is_width w = nat_le 1 w && nat_le w widest
+
 -- "Explicit casts" and "Implicit casts": the integers that `bit<w>` has
 abbrev pub fits_bit : ℕ → ℤ → Bool
-fits_bit w z = int_le (pos 0) z && int_lt z (pos (2 ^ w))
+fits_bit w z = is_width w && int_le (pos 0) z && int_lt z (pos (2 ^ w))
 
 -- the integers that `int<w>` has
 abbrev pub fits_int : ℕ → ℤ → Bool
-fits_int w z = int_le (neg_ℤ (pos (2 ^ (w - 1)))) z && int_lt z (pos (2 ^ (w - 1)))
+fits_int w z = is_width w && int_le (neg_ℤ (pos (2 ^ (w - 1)))) z && int_lt z (pos (2 ^ (w - 1)))
 
 abbrev pub is_negative : ℤ → Bool
 is_negative z = int_lt z (pos 0)

@@ -28,10 +28,10 @@ use Rattle.p4_rules.specs.declared.types.SourceType.TheVariants.{Structure, Opaq
 use Rattle.p4_rules.specs.Types.{same_type}
 use Rattle.p4_rules.specs.declared.scopes.Allowed.{Allowed}
 use Rattle.p4_rules.specs.declared.scopes.ParameterShape.{ParameterShape}
-use Rattle.p4_rules.specs.Scopes.{Scope, Meaning, TypeOf, found_in}
+use Rattle.p4_rules.specs.Scopes.{Scope, Meaning, TypeOf, found_in, shapes_of}
 use Rattle.p4_rules.specs.Expressions.{written_type}
 use Rattle.p4_rules.specs.Callees.{is_emittable}
-use Rattle.p4_rules.specs.Controls.{shapes_of, PlaneControl, PlaneTable, PlaneChild, PlaneAction, ListedPlace}
+use Rattle.p4_rules.specs.Controls.{PlaneControl, PlaneTable, PlaneChild, PlaneAction, ListedPlace}
 use Rattle.p4_rules.specs.Core.{all_allowed}
 use Rattle.p4_rules.specs.Tops.{Roles, is_main, behind_declaration}
 

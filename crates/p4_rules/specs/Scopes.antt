@@ -1,5 +1,5 @@
 -- Names and scopes: what a name stands for, and where it is found.
-use Rattle.std.specs.Prelude.{true, false, ℕ, List, [], ◌∷◌, ◌++◌, Bool, Option, None, Some, Result, ℤ, is_some, length, if◌then◌else◌, slice_get}
+use Rattle.std.specs.Prelude.{true, false, ℕ, ◌==◌, List, [], ◌∷◌, ◌++◌, Bool, Option, None, Some, Result, ℤ, is_some, length, if◌then◌else◌, slice_get}
 use Rattle.std.specs.Str.{bytes_eq}
 use Rattle.std.specs.Map.{lookup}
 use Rattle.tg_base.specs.declared.place.Span.{Span}
@@ -39,8 +39,8 @@ pub data Meaning : Type 0 where
   ActionOf : ℕ → List ParameterShape → Meaning
   -- a table of the control by its number there, with the actions that it lists
   TableOf : ℕ → List (List ℕ × ℕ) → Meaning
-  -- an instance of a control by its number there, with the parameters of the control
-  InstanceOf : ℕ → List ParameterShape → Meaning
+  -- an instance of a control by its number there, with the number of the control
+  InstanceOf : ℕ → ℕ → Meaning
   FunctionOf : Function → Meaning
   -- a state of the parser, by its number
   StateOf : ℕ → Meaning
@@ -66,10 +66,10 @@ is_in_control_or_action _ = false
 
 -- What is known where a part of a source stands.
 pub record Scope : Type 0 where
-  -- the fields of structs and headers and the members of enumerations so far, by their numbers
+  -- the fields of structs and headers and the members of enumerations with their values so far, by their numbers
   pub structs : List (List FieldOf)
   pub headers : List (List FieldOf)
-  pub enumerations : List (List (List ℕ × ℤ))
+  pub enumerations : List (List (List ℕ × Meaning))
   -- the errors so far, and how many the whole source has
   pub errors : List (List ℕ)
   pub error_count : ℕ
@@ -156,6 +156,10 @@ within Γ = record Γ { inner = [] ∷ Γ.inner }
 abbrev pub listed : {X : Type 0} → Option (List X) → List X
 listed None = []
 listed (Some xs) = xs
+
+-- the parameters of a parser or a control
+abbrev pub shapes_of : Scope → ℕ → List ParameterShape
+shapes_of Γ n = listed (lookup (λ m. m == n) Γ.shapes)
 
 -- the type of a value in a run
 abbrev pub value_type : Scope → SourceType → ValueType

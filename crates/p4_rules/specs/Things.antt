@@ -1,5 +1,5 @@
 -- What an expression stands for: a value, or something that has none by itself, as a method before its arguments.
-use Rattle.std.specs.Prelude.{ℕ, ◌==◌, List, [], ◌∷◌, ◌++◌, Bool, ◌&&◌, ◌||◌, Option, None, Some, Result, ℤ, pos, unsigned_abs, codes, if◌then◌else◌, slice_get}
+use Rattle.std.specs.Prelude.{ℕ, ◌==◌, List, [], ◌∷◌, ◌++◌, Bool, ◌&&◌, ◌||◌, Option, None, Some, Result, ℤ, pos, codes, if◌then◌else◌, slice_get}
 use Rattle.std.specs.Str.{bytes_eq}
 use Rattle.std.specs.Map.{lookup}
 use Rattle.std.specs.List.{position}
@@ -30,7 +30,6 @@ use Rattle.p4_rules.specs.declared.types.FieldOf.{FieldOf}
 use Rattle.p4_rules.specs.declared.types.Object.TheVariants.{PacketIn, PacketOut, Counter, DirectCounter, Meter, ParserType, ControlType}
 use Rattle.p4_rules.specs.declared.types.SourceType.TheVariants.{Bit, Signed, Boolean, Error, Enumeration, BitEnumeration, Structure, Header, Stack, Opaque}
 use Rattle.p4_rules.specs.Types.{field_place}
-use Rattle.p4_rules.specs.declared.scopes.ParameterShape.{ParameterShape}
 use Rattle.p4_rules.specs.declared.scopes.Function.TheVariants.{LeftOut}
 use Rattle.p4_rules.specs.Scopes.{Scope, is_in_parser, Meaning, IntegerOf, ConstantOf, VariableOf, ObjectOf, TableOf, InstanceOf, FunctionOf, value_type, listed}
 use Rattle.p4_rules.specs.Operands.{Operand, Whole, Fixed, Stored, Computed, Placed, type_of, varying_or, constant_number}
@@ -49,7 +48,7 @@ pub data Method : Type 0 where
   Count CountDirect ExecuteMeter : Method
   -- of a table, and of an instance of a control
   ApplyTable : ℕ → List (List ℕ × ℕ) → Method
-  ApplyControl : ℕ → List ParameterShape → Method
+  ApplyControl : ℕ → ℕ → Method
 
 pub data Thing : Type 0 where
   Value : Operand → Thing
@@ -197,15 +196,15 @@ value_member Γ (Header n) place x name =
 value_member Γ (Stack n size) place x name = stack_member Γ n place x name
 value_member Γ t place x name = unknown_member Γ name
 
-abbrev pub member_in : Scope → SourceType → Name → Option ℤ → Checked Thing
-member_in Γ t name None = unknown_member Γ name
-member_in Γ t name (Some z) = Right (Value (Fixed t (unsigned_abs z)))
+abbrev pub member_in : Scope → Name → Option Meaning → Checked Thing
+member_in Γ name None = unknown_member Γ name
+member_in Γ name (Some m) = thing_of Γ name.span m
 
 -- the members of an enumeration, by its number
-abbrev pub members_of : Scope → ℕ → List (List ℕ × ℤ)
+abbrev pub members_of : Scope → ℕ → List (List ℕ × Meaning)
 members_of Γ n = listed (slice_get Γ.enumerations n)
 
-abbrev pub member_named : Scope → ℕ → List ℕ → Option ℤ
+abbrev pub member_named : Scope → ℕ → List ℕ → Option Meaning
 member_named Γ n name = lookup (λ other. bytes_eq other name) (members_of Γ n)
 
 abbrev pub type_apply : Scope → Span → Name → Checked Thing
@@ -217,8 +216,8 @@ type_apply Γ place name =
 abbrev pub type_member : Scope → SourceType → Span → Name → Checked Thing
 type_member Γ (Enumeration n) place name =
     if (n == 0) && (bytes_eq name.text (codes "crc16") || bytes_eq name.text (codes "crc32")) then fault_at Checking code.Unsupported place
-    else member_in Γ (Enumeration n) name (member_named Γ n name.text)
-type_member Γ (BitEnumeration n w) place name = member_in Γ (BitEnumeration n w) name (member_named Γ n name.text)
+    else member_in Γ name (member_named Γ n name.text)
+type_member Γ (BitEnumeration n w) place name = member_in Γ name (member_named Γ n name.text)
 type_member Γ (Opaque (ControlType n)) place name = type_apply Γ place name
 type_member Γ (Opaque (ParserType n)) place name = type_apply Γ place name
 type_member Γ t place name = unknown_member Γ name
@@ -240,7 +239,7 @@ named_member Γ (ObjectOf Counter) name = method_named Γ name (codes "count") C
 named_member Γ (ObjectOf DirectCounter) name = method_named Γ name (codes "count") CountDirect
 named_member Γ (ObjectOf Meter) name = method_named Γ name (codes "execute_meter") ExecuteMeter
 named_member Γ (TableOf n actions) name = method_named Γ name (codes "apply") (ApplyTable n actions)
-named_member Γ (InstanceOf n shapes) name = method_named Γ name (codes "apply") (ApplyControl n shapes)
+named_member Γ (InstanceOf n control) name = method_named Γ name (codes "apply") (ApplyControl n control)
 named_member Γ m name = unknown_member Γ name
 
 -- "Match-action unit invocation": what an application of a table tells

@@ -1,5 +1,5 @@
 -- What stands at the top of a source: types, errors, constants, actions, parsers, controls and instances.
-use Rattle.std.specs.Prelude.{ℕ, ◌+◌, List, [], ◌∷◌, ◌++◌, map, length, Bool, true, false, Option, None, Some, ℤ, pos, codes, if◌then◌else◌}
+use Rattle.std.specs.Prelude.{ℕ, ◌+◌, List, [], ◌∷◌, ◌++◌, map, length, Bool, true, false, Option, None, Some, codes, if◌then◌else◌}
 use Rattle.std.specs.List.{list_any, sum_by}
 use Rattle.std.specs.Str.{bytes_eq}
 use Rattle.tg_base.specs.declared.place.Code.TheVariants as code
@@ -30,7 +30,7 @@ use Rattle.p4_rules.specs.declared.types.SourceType.TheVariants.{Bit, Enumeratio
 use Rattle.p4_rules.specs.Types.{may_be_in_header, is_run_time, has_whole_bytes}
 use Rattle.p4_rules.specs.declared.scopes.Allowed.{Allowed}
 use Rattle.p4_rules.specs.declared.scopes.ParameterShape.{ParameterShape}
-use Rattle.p4_rules.specs.Scopes.{Scope, Meaning, TypeOf, folding, once, with_top_name, with_callable_depth}
+use Rattle.p4_rules.specs.Scopes.{Scope, Meaning, TypeOf, ConstantOf, folding, once, with_top_name, with_callable_depth}
 use Rattle.p4_rules.specs.Casts.{typing_fault}
 use Rattle.p4_rules.specs.Expressions.{written_type, width_of}
 use Rattle.p4_rules.specs.Variables.{judged_expression, value_in, constant_value_of}
@@ -73,9 +73,9 @@ abbrev pub no_value : Scope → Option Expression → Checked Bool
 no_value Γ None = Right true
 no_value Γ (Some e) = and_then (judged_expression (folding Γ) e) (λ j. typing_fault {X = Bool} e.span)
 
-abbrev pub plain_members : Scope → List (List ℕ) → ℕ → List Member → Checked (List (List ℕ × ℤ))
+abbrev pub plain_members : Scope → List (List ℕ) → ℕ → List Member → Checked (List (List ℕ × Meaning))
 plain_members Γ seen k [] = Right []
-plain_members Γ seen k (m ∷ ms) = both (λ one more. (m.name.text, pos k) ∷ more)
+plain_members Γ seen k (m ∷ ms) = both (λ one more. (m.name.text, ConstantOf (Enumeration (length Γ.enumerations)) k) ∷ more)
     (beside (new_among seen m.name) (no_value Γ m.value)) (plain_members Γ (m.name.text ∷ seen) (k + 1) ms)
 
 -- "Enumeration types": each member of one over bits has a constant value of these bits
@@ -83,9 +83,9 @@ abbrev pub member_value : Scope → ℕ → Name → Option Expression → Check
 member_value Γ w name None = fault_at Folding code.Constant name.span
 member_value Γ w name (Some e) = and_then (value_in (folding Γ) e) (constant_for (folding Γ) (Bit w))
 
-abbrev pub valued_members : Scope → ℕ → List (List ℕ) → List Member → Checked (List (List ℕ × ℤ))
+abbrev pub valued_members : Scope → ℕ → List (List ℕ) → List Member → Checked (List (List ℕ × Meaning))
 valued_members Γ w seen [] = Right []
-valued_members Γ w seen (m ∷ ms) = both (λ v more. (m.name.text, pos v) ∷ more)
+valued_members Γ w seen (m ∷ ms) = both (λ v more. (m.name.text, ConstantOf (BitEnumeration (length Γ.enumerations) w) v) ∷ more)
     (beside (new_among seen m.name) (member_value Γ w m.name m.value)) (valued_members Γ w (m.name.text ∷ seen) ms)
 
 -- what members hold, whatever their width is
@@ -99,7 +99,7 @@ member_parts Γ ms = made_of (λ bs. true) (all_of (map (λ m. member_part Γ m.
 -- an enumeration: its width where it has one, and its members
 pub record EnumMade : Type 0 where
   pub width : Option ℕ
-  pub members : List (List ℕ × ℤ)
+  pub members : List (List ℕ × Meaning)
 
 abbrev pub enum_with : Scope → List Member → Option Width → Checked EnumMade
 enum_with Γ members None = made_of (λ ms. record { width = None; members = ms }) (plain_members Γ [] 0 members)
