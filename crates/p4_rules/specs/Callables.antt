@@ -20,7 +20,7 @@ use Rattle.p4_rules.specs.declared.types.SourceType.TheVariants.{Opaque}
 use Rattle.p4_rules.specs.Types.{is_run_time}
 use Rattle.p4_rules.specs.declared.scopes.ParameterShape.{ParameterShape}
 use Rattle.p4_rules.specs.declared.scopes.Here.TheVariants.{InAction}
-use Rattle.p4_rules.specs.Scopes.{Scope, Meaning, VariableOf, ObjectOf, ActionOf, once, innermost, with_name, with_callable_depth, within, value_type}
+use Rattle.p4_rules.specs.Scopes.{Scope, Meaning, VariableOf, ObjectOf, ActionOf, once, innermost, with_name, more_shapes, with_callable_depth, within, value_type}
 use Rattle.p4_rules.specs.Expressions.{written_type}
 use Rattle.p4_rules.specs.Variables.{next_root}
 use Rattle.p4_rules.specs.Counts.{Count, count_of_parts}
@@ -117,7 +117,7 @@ action_of Γ control a = both (made_action Γ control) (action_shapes Γ a)
     (body_of (with_parameters (action_scope Γ) false a.parameters) a.body)
 
 abbrev pub action_meaning : Scope → Checked ActionMade → Checked Meaning
-action_meaning Γ made = made_of (λ m. ActionOf Γ.callable m.shapes) made
+action_meaning Γ made = made_of (λ m. ActionOf Γ.callable) made
 
 -- the chain below an action, where it is right
 abbrev pub action_depth : Scope → Checked ActionMade → ℕ
@@ -126,5 +126,5 @@ action_depth Γ (Wrong fault more) = 0
 
 -- what stands behind an action has the next number of a callable, and its statements behind those of the action
 abbrev pub behind_action : Scope → Action → Checked ActionMade → Scope → Scope
-behind_action Γ a made named = with_callable_depth Γ.callable (action_depth Γ made)
-    (record named { callable = Γ.callable + 1; statement = Γ.statement + (count_of_block a.body).statements })
+behind_action Γ a made named = more_shapes Γ.callable (made_of (λ m. m.shapes) made) (with_callable_depth Γ.callable (action_depth Γ made)
+    (record named { callable = Γ.callable + 1; statement = Γ.statement + (count_of_block a.body).statements }))

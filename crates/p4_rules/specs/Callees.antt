@@ -196,9 +196,9 @@ method_call Γ Count place passed =
 method_call Γ CountDirect place passed = a_call (no_arguments place passed (work.Evaluate []))
 method_call Γ ExecuteMeter place passed =
     a_call (two_arguments place (λ index into. both (λ e path. work.ExecuteMeter e path) (passed_in Γ (Bit 32) index) (path_passed Γ is_sized into)) passed)
-method_call Γ (ApplyTable n actions) place passed =
+method_call Γ (ApplyTable n) place passed =
     chained (depth_in Γ.depths.tables n) place
-    (only_where (is_in_control Γ.here) place (no_arguments place passed (Applied n actions)))
+    (only_where (is_in_control Γ.here) place (no_arguments place passed (Applied n)))
 method_call Γ (ApplyControl n control) place passed =
     chained (depth_in Γ.depths.children n) place
     (only_where (is_in_control Γ.here) place (a_call (made_of (λ those. work.ApplyControl n those) (arguments Γ place (shapes_of Γ control) passed))))
@@ -285,9 +285,9 @@ function_call Γ LeftOut place passed = fault_at Checking code.Unsupported place
 
 -- "Actions": they are called in controls and in actions
 abbrev pub named_call : Scope → Meaning → Span → List Judged → Checked Thing
-named_call Γ (ActionOf n shapes) place passed = chained (depth_in Γ.depths.callables n) place
+named_call Γ (ActionOf n) place passed = chained (depth_in Γ.depths.callables n) place
     (only_where (is_in_control_or_action Γ.here) place
-    (a_call (made_of (λ those. work.CallAction n those) (arguments Γ place shapes passed))))
+    (a_call (made_of (λ those. work.CallAction n those) (arguments Γ place (shapes_of Γ n) passed))))
 named_call Γ (FunctionOf f) place passed = a_call (function_call Γ f place passed)
 named_call Γ m place passed = typing_fault place
 

@@ -41,7 +41,7 @@ use Rattle.p4_rules.specs.Variables.{judged_expression, with_constant, with_vari
 use Rattle.p4_rules.specs.Statements.{variables_of, followed_by}
 use Rattle.p4_rules.specs.Callables.{with_parameters, parameter_shapes, core_parameters, body_of, count_of_block, ActionMade, action_of, action_meaning, behind_action}
 use Rattle.p4_rules.specs.Keys.{constant_for, constant_first}
-use Rattle.p4_rules.specs.Tables.{Listed, TableMade, first_actions, table_of, table_meaning}
+use Rattle.p4_rules.specs.Tables.{Listed, TableMade, first_actions, table_of, table_meaning, actions_in}
 use Rattle.p4_rules.specs.Notes.{noted, given_name}
 
 -- an argument that is a value; what is constructed there has no type that fits
@@ -222,7 +222,7 @@ table_depth Γ (Wrong fault more) = 0
 
 abbrev pub with_table : Scope → Table → Scope
 with_table Γ t = let named = with_name Γ t.name.text (table_meaning Γ (table_of Γ t)) in
-    with_table_depth Γ.table (table_depth Γ (table_of Γ t)) (record named { table = Γ.table + 1 })
+    with_table_depth Γ.table (table_depth Γ (table_of Γ t)) (record named { table = Γ.table + 1; table_actions = Γ.table_actions ++ actions_in (table_of Γ t) ∷ [] })
 
 -- an instance of a control has the next number of those
 abbrev pub child_behind : ℕ → Checked Instanced → ℕ
@@ -278,6 +278,7 @@ control_scope Γ allowed = record (within Γ) {
   allowed = allowed;
   variable = 0;
   table = 0;
+  table_actions = [];
   child = 0;
   depths = record (Γ.depths) { tables = []; children = [] };
 }

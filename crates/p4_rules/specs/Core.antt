@@ -90,7 +90,7 @@ left_out =
 
 -- the names at the top before a source: types, functions, and the action `NoAction`, which has the number 0
 abbrev pub core_names : Names
-core_names = (codes "NoAction", Ok (ActionOf 0 []))
+core_names = (codes "NoAction", Ok (ActionOf 0))
     ∷ (map (λ t. (t.0, Ok (TypeOf t.1))) named_types
     ++ (map (λ f. (f.0, Ok (FunctionOf f.1))) functions
     ++ map (λ name. (name, Ok (FunctionOf LeftOut))) left_out))
@@ -109,7 +109,8 @@ core_scope error_count = record {
   error_count = error_count;
   top = core_names;
   inner = [];
-  shapes = [];
+  shapes = (0, []) ∷ [];
+  table_actions = [];
   depths = no_depths;
   pass = Checking;
   here = AtTop;

@@ -13,7 +13,7 @@ use Rattle.p4_rules.specs.Chains.{Depths}
 use Rattle.p4_rules.specs.declared.faults.Pass.{Pass}
 use Rattle.p4_rules.specs.declared.faults.Pass.TheVariants.{Folding, Checking}
 use Rattle.p4_rules.specs.declared.faults.Fault.{Fault}
-use Rattle.p4_rules.specs.Faults.{Checked, Right, fault_at, told, of_told}
+use Rattle.p4_rules.specs.Faults.{Checked, Right, Wrong, fault_at, told, of_told}
 use Rattle.p4_rules.specs.declared.scopes.Function.{Function}
 use Rattle.p4_rules.specs.declared.scopes.Here.{Here}
 use Rattle.p4_rules.specs.declared.scopes.Here.TheVariants.{InParser, InControl, InAction}
@@ -36,9 +36,9 @@ pub data Meaning : Type 0 where
   -- a packet, or an instance of an extern
   ObjectOf : Object → Meaning
   -- an action, by its number among the callables
-  ActionOf : ℕ → List ParameterShape → Meaning
-  -- a table of the control by its number there, with the actions that it lists
-  TableOf : ℕ → List (List ℕ × ℕ) → Meaning
+  ActionOf : ℕ → Meaning
+  -- a table of the control by its number there
+  TableOf : ℕ → Meaning
   -- an instance of a control by its number there, with the number of the control
   InstanceOf : ℕ → ℕ → Meaning
   FunctionOf : Function → Meaning
@@ -76,8 +76,10 @@ pub record Scope : Type 0 where
   -- the names at the top, and those of the scopes within, the innermost first
   pub top : Names
   pub inner : List Names
-  -- the parameters of parsers and controls, by their numbers among the callables
+  -- the parameters of actions, parsers and controls, by their numbers among the callables
   pub shapes : List (ℕ × List ParameterShape)
+  -- the actions that each table of the control lists, with their numbers
+  pub table_actions : List (List (List ℕ × ℕ))
   -- the chains of calls below what may be called
   pub depths : Depths
   -- the pass in which a name or a constant is refused here
@@ -157,9 +159,13 @@ abbrev pub listed : {X : Type 0} → Option (List X) → List X
 listed None = []
 listed (Some xs) = xs
 
--- the parameters of a parser or a control
+-- the parameters of a callable
 abbrev pub shapes_of : Scope → ℕ → List ParameterShape
 shapes_of Γ n = listed (lookup (λ m. m == n) Γ.shapes)
+
+abbrev pub more_shapes : ℕ → Checked (List ParameterShape) → Scope → Scope
+more_shapes n (Right shapes) Γ = record Γ { shapes = (n, shapes) ∷ Γ.shapes }
+more_shapes n (Wrong fault more) Γ = Γ
 
 -- the type of a value in a run
 abbrev pub value_type : Scope → SourceType → ValueType

@@ -1,5 +1,5 @@
 -- Statements and blocks: what each does in a run.
-use Rattle.std.specs.Prelude.{ℕ, ◌+◌, List, [], ◌∷◌, ◌++◌, Bool, true, false, Option, None, Some, if◌then◌else◌}
+use Rattle.std.specs.Prelude.{ℕ, ◌+◌, List, [], ◌∷◌, ◌++◌, Bool, true, false, Option, None, Some, slice_get, if◌then◌else◌}
 use Rattle.std.specs.List.{position}
 use Rattle.std.specs.Str.{bytes_eq}
 use Rattle.tg_base.specs.declared.place.Span.{Span}
@@ -28,7 +28,7 @@ use Rattle.p4_program.specs.Syntax.Statements as core
 use Rattle.p4_rules.specs.declared.faults.Pass.TheVariants.{Checking}
 use Rattle.p4_rules.specs.Faults.{Checked, Right, fault_at, and_then, made_of, both, all_three, with_both, beside}
 use Rattle.p4_rules.specs.declared.types.SourceType.TheVariants.{Boolean}
-use Rattle.p4_rules.specs.Scopes.{Scope, is_in_parser, within}
+use Rattle.p4_rules.specs.Scopes.{Scope, is_in_parser, within, listed}
 use Rattle.p4_rules.specs.Operands.{Operand, Stored, Sliced, Placed, type_of, core_of}
 use Rattle.p4_rules.specs.Casts.{typing_fault}
 use Rattle.p4_rules.specs.Things.{Thing, Value, WorkOf, Applied, ActionRun, Judged, misfit}
@@ -78,7 +78,7 @@ is_call _ = false
 -- "Method invocations and function calls": a call as a statement; one that gives a value evaluates it
 abbrev pub called_thing : Scope → Bool → Span → Thing → Checked CoreWork
 called_thing Γ is_one place (WorkOf work) = Right work
-called_thing Γ is_one place (Applied n actions) = Right (core.ApplyTable n)
+called_thing Γ is_one place (Applied n) = Right (core.ApplyTable n)
 called_thing Γ true place (Value x) = Right (core.Evaluate (core_of Γ x ∷ []))
 called_thing Γ is_one place thing = misfit place thing
 
@@ -95,23 +95,19 @@ action_label name None = fault_at Checking code.Name name.span
 
 abbrev pub label_of : List (List ℕ × ℕ) → SwitchLabel → Checked Label
 label_of actions label.Default = Right target.Default
-label_of actions (label.Action name) = action_label name (position (λ listed. bytes_eq listed.0 name.text) actions)
+label_of actions (label.Action name) = action_label name (position (λ action. bytes_eq action.0 name.text) actions)
 
--- what a `switch` is on: the action that a table ran; anything else is left out
-pub record Ran : Type 0 where
-  pub table : ℕ
-  pub actions : List (List ℕ × ℕ)
-
-abbrev pub ran_by : Span → Thing → Checked Ran
-ran_by word (ActionRun n actions) = Right (record { table = n; actions = actions })
+-- what a `switch` is on: the action that a table ran, by the number of the table; anything else is left out
+abbrev pub ran_by : Span → Thing → Checked ℕ
+ran_by word (ActionRun n) = Right n
 ran_by word _ = fault_at Checking code.Unsupported word
 
-abbrev pub switched : Scope → Span → Expression → Checked Ran
+abbrev pub switched : Scope → Span → Expression → Checked ℕ
 switched Γ word e = and_then (judged_expression Γ e) (λ j. ran_by word j.thing)
 
 -- the cases of a `switch` are read on where its table is not known: each label is then as faulty as the table
-abbrev pub label_in : Checked Ran → SwitchLabel → Checked Label
-label_in ran l = and_then ran (λ r. label_of r.actions l)
+abbrev pub label_in : Scope → Checked ℕ → SwitchLabel → Checked Label
+label_in Γ ran l = and_then ran (λ n. label_of (listed (slice_get Γ.table_actions n)) l)
 
 -- cases whose labels share a body; labels behind the last body have an empty one
 abbrev pub case_of : List Label → CoreStatements → CoreCases → CoreCases
@@ -133,7 +129,7 @@ abbrev mutual
       (condition Γ e) (statement_of Γ k s) (else_of (passing Γ (count_of k)) other))
   -- "Switch statement"
   statement_of Γ (statement.Switch' e count row) place =
-      not_in_states Γ place (both (λ ran cases. alone (core.Switch ran.table cases))
+      not_in_states Γ place (both (λ n cases. alone (core.Switch n cases))
       (switched Γ place e) (cases_of Γ (switched Γ place e) (Right []) row))
   statement_of Γ (statement.Assign target e) place = made_of (numbered Γ place) (assignment Γ target e)
   statement_of Γ (statement.Call e) place = made_of (numbered Γ place) (and_then (judged_expression Γ e) (called Γ (is_call e.kind)))
@@ -143,12 +139,12 @@ abbrev mutual
   else_of Γ (StatementKind-If-2-Some' one (more_of-Statement k s end_of-Statement)) = statement_of Γ k s
 
   -- cases behind labels that have no body yet
-  pub cases_of : Scope → Checked Ran → Checked (List Label) → {n : _} → Row_of-SwitchCase n → Checked CoreCases
+  pub cases_of : Scope → Checked ℕ → Checked (List Label) → {n : _} → Row_of-SwitchCase n → Checked CoreCases
   cases_of Γ ran waiting end_of-SwitchCase = made_of (λ labels. case_of labels core.NoStatements core.NoCases) waiting
   cases_of Γ ran waiting (more_of-SwitchCase (SwitchCase' l SwitchCase-body-None' s) rest) =
-      cases_of Γ ran (both (λ labels one. labels ++ one ∷ []) waiting (label_in ran l)) rest
+      cases_of Γ ran (both (λ labels one. labels ++ one ∷ []) waiting (label_in Γ ran l)) rest
   cases_of Γ ran waiting (more_of-SwitchCase (SwitchCase' l (SwitchCase-body-Some' (Block' count row t)) s) rest) =
-      all_three case_of (both (λ labels one. labels ++ one ∷ []) waiting (label_in ran l)) (parts_of (within Γ) row)
+      all_three case_of (both (λ labels one. labels ++ one ∷ []) waiting (label_in Γ ran l)) (parts_of (within Γ) row)
       (cases_of (passing Γ (count_of_parts row)) ran (Right []) rest)
 
   -- what stands in a block or a state, from its first part on

@@ -28,12 +28,12 @@ use Rattle.p4_program.specs.declared.typed.tables.MatchKind.TheVariants as match
 use Rattle.p4_program.specs.declared.typed.tables.Pattern.{Pattern}
 use Rattle.p4_program.specs.Syntax.Callables.{CoreKey, CoreTable}
 use Rattle.p4_rules.specs.declared.faults.Pass.TheVariants.{Checking}
-use Rattle.p4_rules.specs.Faults.{Checked, Right, fault_at, given, and_then, made_of, both, with_both, all_of, beside}
+use Rattle.p4_rules.specs.Faults.{Checked, Right, Wrong, fault_at, given, and_then, made_of, both, with_both, all_of, beside}
 use Rattle.p4_rules.specs.declared.types.SourceType.{SourceType}
 use Rattle.p4_rules.specs.declared.types.Object.TheVariants.{DirectCounter}
 use Rattle.p4_rules.specs.declared.types.SourceType.TheVariants.{Bit, Signed, Boolean, Integer}
 use Rattle.p4_rules.specs.declared.scopes.ParameterShape.{ParameterShape}
-use Rattle.p4_rules.specs.Scopes.{Scope, Meaning, ActionOf, TableOf, ObjectOf, meaning_of, or_else}
+use Rattle.p4_rules.specs.Scopes.{Scope, Meaning, ActionOf, TableOf, ObjectOf, meaning_of, or_else, shapes_of}
 use Rattle.p4_rules.specs.Operands.{Operand, type_of, core_of}
 use Rattle.p4_rules.specs.Operators.{width_in}
 use Rattle.p4_rules.specs.Casts.{as_bits, typing_fault}
@@ -135,22 +135,21 @@ is_data_type _ = false
 abbrev pub is_data : ParameterShape → Bool
 is_data shape = is_none shape.direction && is_data_type shape.type_of
 
--- an action of the list, by its number, with what it takes
+-- an action of the list, by its number
 pub record Listed : Type 0 where
   pub name : List ℕ
   pub action : ℕ
-  pub shapes : List ParameterShape
   pub default_only : Bool
 
-abbrev pub listed_meaning : ListedAction → Meaning → Checked Listed
-listed_meaning a (ActionOf n shapes) =
-    if list_all is_data shapes
-    then Right (record { name = a.name.text; action = n; shapes = shapes; default_only = is_default_only a.annotations })
+abbrev pub listed_meaning : Scope → ListedAction → Meaning → Checked Listed
+listed_meaning Γ a (ActionOf n) =
+    if list_all is_data (shapes_of Γ n)
+    then Right (record { name = a.name.text; action = n; default_only = is_default_only a.annotations })
     else fault_at Checking code.Unsupported a.name.span
-listed_meaning a m = typing_fault a.name.span
+listed_meaning Γ a m = typing_fault a.name.span
 
 abbrev pub listed_action : Scope → ListedAction → Checked Listed
-listed_action Γ a = noted a.annotations (and_then (meaning_of Γ a.name) (listed_meaning a))
+listed_action Γ a = noted a.annotations (and_then (meaning_of Γ a.name) (listed_meaning Γ a))
 
 -- what calls an action: its name, and the arguments where there is a call
 pub record Called : Type 0 where
@@ -197,9 +196,9 @@ pub record Chosen : Type 0 where
 -- "Default action": a call of a listed action with constant arguments, the name of one without parameters, or `NoAction`, which
 -- may be unlisted. An entry's action is listed.
 abbrev pub chosen_meaning : Scope → Bool → List Listed → Span → Called → Meaning → Checked Chosen
-chosen_meaning Γ no_action listed place c (ActionOf n shapes) =
+chosen_meaning Γ no_action listed place c (ActionOf n) =
     if is_some (listed_place listed n) || (no_action && (n == 0))
-    then made_of (λ bits. record { action = n; arguments = bits }) (constant_arguments Γ place shapes c.arguments)
+    then made_of (λ bits. record { action = n; arguments = bits }) (constant_arguments Γ place (shapes_of Γ n) c.arguments)
     else fault_at Checking code.Name c.name.span
 chosen_meaning Γ no_action listed place c m = typing_fault c.name.span
 
@@ -389,4 +388,9 @@ table_of Γ t = beside (properties_right Γ [] t.properties)
     (with_both (table_with Γ t.properties) (keys_of Γ (first_keys t.properties)) (all_of (map (listed_action Γ) (first_actions t.properties))))
 
 abbrev pub table_meaning : Scope → Checked TableMade → Checked Meaning
-table_meaning Γ made = made_of (λ m. TableOf Γ.table (map (λ l. (l.name, l.action)) m.listed)) made
+table_meaning Γ made = made_of (λ m. TableOf Γ.table) made
+
+-- the actions of a table with their numbers, where it is right
+abbrev pub actions_in : Checked TableMade → List (List ℕ × ℕ)
+actions_in (Right made) = map (λ l. (l.name, l.action)) made.listed
+actions_in (Wrong fault more) = []

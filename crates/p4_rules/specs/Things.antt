@@ -47,7 +47,7 @@ pub data Method : Type 0 where
   -- of externs
   Count CountDirect ExecuteMeter : Method
   -- of a table, and of an instance of a control
-  ApplyTable : ℕ → List (List ℕ × ℕ) → Method
+  ApplyTable : ℕ → Method
   ApplyControl : ℕ → ℕ → Method
 
 pub data Thing : Type 0 where
@@ -61,7 +61,7 @@ pub data Thing : Type 0 where
   -- the element of a stack that is filled next, and whether it may be assigned to
   NextOf : SourceType → Bool → Path → Thing
   -- `t.apply()`, and the action that it ran
-  Applied ActionRun : ℕ → List (List ℕ × ℕ) → Thing
+  Applied ActionRun : ℕ → Thing
   -- a call that is a statement
   WorkOf : CoreWork → Thing
   Text : Thing
@@ -238,16 +238,16 @@ named_member Γ (ObjectOf PacketOut) name = method_named Γ name (codes "emit") 
 named_member Γ (ObjectOf Counter) name = method_named Γ name (codes "count") Count
 named_member Γ (ObjectOf DirectCounter) name = method_named Γ name (codes "count") CountDirect
 named_member Γ (ObjectOf Meter) name = method_named Γ name (codes "execute_meter") ExecuteMeter
-named_member Γ (TableOf n actions) name = method_named Γ name (codes "apply") (ApplyTable n actions)
+named_member Γ (TableOf n) name = method_named Γ name (codes "apply") (ApplyTable n)
 named_member Γ (InstanceOf n control) name = method_named Γ name (codes "apply") (ApplyControl n control)
 named_member Γ m name = unknown_member Γ name
 
 -- "Match-action unit invocation": what an application of a table tells
-abbrev pub applied_member : Scope → ℕ → List (List ℕ × ℕ) → Span → Name → Checked Thing
-applied_member Γ n actions place name =
+abbrev pub applied_member : Scope → ℕ → Span → Name → Checked Thing
+applied_member Γ n place name =
     if bytes_eq name.text (codes "hit") then Right (Value (Computed Boolean (core.Hit n) place))
     else (if bytes_eq name.text (codes "miss") then Right (Value (Computed Boolean (core.Unary op.Not (core.Hit n)) place))
-    else (if bytes_eq name.text (codes "action_run") then Right (ActionRun n actions)
+    else (if bytes_eq name.text (codes "action_run") then Right (ActionRun n)
     else unknown_member Γ name))
 
 -- what stands behind a `.`
@@ -256,7 +256,7 @@ member_of Γ (Value x) place name = value_member Γ (type_of x) place x name
 member_of Γ (TypeName t) place name = type_member Γ t place name
 member_of Γ Errors place name = error_member Γ name (position (λ other. bytes_eq other name.text) Γ.errors)
 member_of Γ (Named m) place name = named_member Γ m name
-member_of Γ (Applied n actions) place name = applied_member Γ n actions place name
+member_of Γ (Applied n) place name = applied_member Γ n place name
 member_of Γ (Braced values) place name = fault_at Checking code.Unsupported place
 member_of Γ _ place name = unknown_member Γ name
 

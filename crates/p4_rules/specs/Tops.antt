@@ -1,5 +1,5 @@
 -- What stands at the top of a source: types, errors, constants, actions, parsers, controls and instances.
-use Rattle.std.specs.Prelude.{ℕ, ◌+◌, List, [], ◌∷◌, ◌++◌, map, length, Bool, true, false, Option, None, Some, codes, if◌then◌else◌}
+use Rattle.std.specs.Prelude.{ℕ, ◌+◌, List, [], ◌∷◌, ◌++◌, map, length, Bool, true, false, Option, None, Some, codes, is_some, position, if◌then◌else◌}
 use Rattle.std.specs.List.{list_any, sum_by}
 use Rattle.std.specs.Str.{bytes_eq}
 use Rattle.tg_base.specs.declared.place.Code.TheVariants as code
@@ -29,8 +29,7 @@ use Rattle.p4_rules.specs.declared.types.Object.TheVariants.{ParserType, Control
 use Rattle.p4_rules.specs.declared.types.SourceType.TheVariants.{Bit, Enumeration, BitEnumeration, Structure, Header, Opaque}
 use Rattle.p4_rules.specs.Types.{may_be_in_header, is_run_time, has_whole_bytes}
 use Rattle.p4_rules.specs.declared.scopes.Allowed.{Allowed}
-use Rattle.p4_rules.specs.declared.scopes.ParameterShape.{ParameterShape}
-use Rattle.p4_rules.specs.Scopes.{Scope, Meaning, TypeOf, ConstantOf, folding, once, with_top_name, with_callable_depth}
+use Rattle.p4_rules.specs.Scopes.{Scope, Meaning, more_shapes, TypeOf, ConstantOf, folding, once, with_top_name, with_callable_depth}
 use Rattle.p4_rules.specs.Casts.{typing_fault}
 use Rattle.p4_rules.specs.Expressions.{written_type, width_of}
 use Rattle.p4_rules.specs.Variables.{judged_expression, value_in, constant_value_of}
@@ -123,6 +122,12 @@ errors_from Γ seen (m ∷ ms) = both (λ b more. m.name.text ∷ more)
 abbrev pub member_names : List Member → List (List ℕ)
 member_names ms = map (λ m. m.name.text) ms
 
+-- errors and those declared behind them, each once
+abbrev pub put_errors : List (List ℕ) → List (List ℕ) → List (List ℕ)
+put_errors errors [] = errors
+put_errors errors (name ∷ names) =
+    put_errors (if is_some (position (λ other. bytes_eq other name) errors) then errors else errors ++ name ∷ []) names
+
 -- the calls that stand in one block alone, by the name of the control: whether it is named as that block and no other
 pub record Roles : Type 0 where
   pub allowed_in : List ℕ → Allowed
@@ -204,10 +209,6 @@ header_meaning Γ made = made_of (λ fields. TypeOf (Header (length Γ.headers))
 abbrev pub enum_meaning : Scope → Checked EnumMade → Checked Meaning
 enum_meaning Γ made = made_of (λ m. TypeOf (enum_type (length Γ.enumerations) m.width)) made
 
-abbrev pub more_shapes : ℕ → Checked (List ParameterShape) → Scope → Scope
-more_shapes n (Right shapes) Γ = record Γ { shapes = (n, shapes) ∷ Γ.shapes }
-more_shapes n (Wrong fault more) Γ = Γ
-
 abbrev pub statements_in : ParserPartKind → ℕ
 statements_in (part.State s) = (count_of_list s.parts).statements
 statements_in _ = 0
@@ -234,7 +235,7 @@ behind_declaration roles Γ (kind.Header name fields) =
     more_headers (with_top_name Γ name.text (header_meaning Γ (header_fields Γ name fields))) (header_fields Γ name fields)
 behind_declaration roles Γ (kind.Enumeration e) =
     more_enumerations (with_top_name Γ e.name.text (enum_meaning Γ (enum_of Γ e))) (enum_of Γ e)
-behind_declaration roles Γ (kind.Errors members) = record Γ { errors = Γ.errors ++ member_names members }
+behind_declaration roles Γ (kind.Errors members) = record Γ { errors = put_errors Γ.errors (member_names members) }
 behind_declaration roles Γ (kind.Action a) =
     behind_action Γ a (action_of (outside roles Γ) None a)
     (with_top_name Γ a.name.text (action_meaning Γ (action_of (outside roles Γ) None a)))
