@@ -1,5 +1,5 @@
 -- A program is well-formed and built: the smallest, whose blocks do nothing.
-use Rattle.std.proofs.Common.{◌≡◌, ℕ, zero, suc, ◌<◌, ◌≤◌, List, [], ◌∷◌, length, Some, slice_get, All, IsSomeAnd, refl, subst, arith, lit<, lit≤}
+use Rattle.std.proofs.Common.{◌≡◌, ℕ, zero, suc, ◌+◌, ◌<◌, ◌≤◌, List, [], ◌∷◌, length, Some, slice_get, sum_by, All, IsSomeAnd, refl, subst, arith, lit<, lit≤}
 use Rattle.std.specs.Bool.{⊤}
 use Rattle.std.proofs.lemmas.List.Sorted.{IsPermutation-refl}
 use Rattle.std.proofs.lemmas.Option.{slice_get_within, get_or_from_slice_get}
@@ -8,6 +8,7 @@ use Rattle.p4_program.specs.declared.typed.callables.Direction.TheVariants.{In, 
 use Rattle.p4_program.specs.declared.typed.callables.Parameter.{Parameter}
 use Rattle.p4_program.specs.declared.typed.callables.Target.TheVariants.{Accept}
 use Rattle.p4_program.specs.declared.typed.instances.Instance.{Instance}
+use Rattle.p4_program.specs.declared.typed.limits.TheConstants.{MAX_CALL_DEPTH, MAX_PATHS}
 use Rattle.p4_program.specs.declared.typed.types.StructType.{StructType}
 use Rattle.p4_program.specs.declared.typed.types.ValueType.{ValueType}
 use Rattle.p4_program.specs.declared.typed.types.ValueType.TheVariants.{Struct}
@@ -17,6 +18,8 @@ use Rattle.p4_program.specs.Syntax.Lookup.{control_at}
 use Rattle.p4_program.specs.Syntax.Programs.{CoreProgram}
 use Rattle.p4_program.specs.Syntax.Statements.{NoStatements}
 use Rattle.p4_program.specs.WellFormed.Callables.{CallableStands, ActionStands, ParserStands, ControlStands, FrameFits, StateFits, parser_scope}
+use Rattle.p4_program.specs.WellFormed.Chains.{ChainsWithin, calls_at}
+use Rattle.p4_program.specs.WellFormed.Stores.{paths_of, locals_of}
 use Rattle.p4_program.specs.WellFormed.Programs.{WellFormed, InstancesFit, InstanceFits, BlocksFit, WithinLimits, no_action}
 use Rattle.p4_program.specs.WellFormed.Types.{TypesFit, TypeFits, WidthFits, IsType, standard_fields, standard_metadata}
 
@@ -215,7 +218,7 @@ control_stands n ps h =
     record {
       frame_fits = frame_fits ps h;
       body_fits = tt;
-      tables_fit = none _;
+      tables_fit = λ k t e. absurd cc;
       children_earlier = none _;
       children_are = none _;
     }
@@ -279,6 +282,27 @@ instances_fit =
       names_different = λ i j d less below. absurd (let past : j < 0 = below in omega arith);
     }
 
+-- the headers and the metadata are a struct each, and there is no variable
+abbrev FewPaths : ℕ → CoreCallable → Type 0
+FewPaths n c =
+    paths_of smallest (Struct 1) + paths_of smallest (Struct 1) + sum_by (paths_of smallest) (locals_of smallest n c) ≤ MAX_PATHS
+
+few_paths : (n : ℕ) (c : CoreCallable) → slice_get smallest.callables n ≡ Some c → FewPaths n c
+few_paths zero c e = let same : OfAction no_action ≡ c = cc in subst (λ d. FewPaths 0 d) same (lit≤ tt)
+few_paths (suc zero) c e = let same : OfParser parser ≡ c = cc in subst (λ d. FewPaths 1 d) same (lit≤ tt)
+few_paths (suc (suc zero)) c e =
+    let same : OfControl (control_with (shared InOut)) ≡ c = cc in subst (λ d. FewPaths 2 d) same (lit≤ tt)
+few_paths (suc (suc (suc zero))) c e =
+    let same : OfControl (control_with (all_three InOut)) ≡ c = cc in subst (λ d. FewPaths 3 d) same (lit≤ tt)
+few_paths (suc (suc (suc (suc zero)))) c e =
+    let same : OfControl (control_with (all_three InOut)) ≡ c = cc in subst (λ d. FewPaths 4 d) same (lit≤ tt)
+few_paths (suc (suc (suc (suc (suc zero))))) c e =
+    let same : OfControl (control_with (shared InOut)) ≡ c = cc in subst (λ d. FewPaths 5 d) same (lit≤ tt)
+few_paths (suc (suc (suc (suc (suc (suc zero)))))) c e =
+    let same : OfControl (control_with (parameter In (Struct 1) ∷ [])) ≡ c = cc in
+    subst (λ d. FewPaths 6 d) same (lit≤ tt)
+few_paths (suc (suc (suc (suc (suc (suc (suc n))))))) c e = absurd cc
+
 blocks_fit : BlocksFit smallest
 blocks_fit =
     record {
@@ -291,10 +315,34 @@ blocks_fit =
       egress = refl;
       compute = refl;
       deparser = refl;
+      few_paths = few_paths;
     }
 
+-- nothing calls anything
+no_chains : (k : ℕ) → ChainsWithin smallest k []
+unfolding ChainsWithin
+no_chains zero = refl
+no_chains (suc k) = none _
+
+chains : (n : ℕ) → n < 7 → ChainsWithin smallest MAX_CALL_DEPTH (calls_at smallest n)
+chains zero less = no_chains _
+chains (suc zero) less = no_chains _
+chains (suc (suc zero)) less = no_chains _
+chains (suc (suc (suc zero))) less = no_chains _
+chains (suc (suc (suc (suc zero)))) less = no_chains _
+chains (suc (suc (suc (suc (suc zero))))) less = no_chains _
+chains (suc (suc (suc (suc (suc (suc zero)))))) less = no_chains _
+chains (suc (suc (suc (suc (suc (suc (suc n))))))) less = absurd (omega arith)
+
 within_limits : WithinLimits smallest
-within_limits = record { tables = lit≤ tt; states = lit≤ tt; constant_entries = lit≤ tt; statements = lit≤ tt }
+within_limits =
+    record {
+      tables = lit≤ tt;
+      states = lit≤ tt;
+      constant_entries = lit≤ tt;
+      statements = lit≤ tt;
+      chains = chains;
+    }
 
 pub well_formed : WellFormed smallest
 well_formed =
@@ -317,7 +365,7 @@ accepts_at_once = record { nothing = refl; accepts = refl }
 
 built_parser : BuiltParser parser
 built_parser =
-    record { no_variable = refl; one_state = refl; accepts = all_of AcceptsAtOnce (accepting ∷ []) (accepts_at_once, tt) }
+    record { no_variable = refl; nothing_before = refl; one_state = refl; accepts = all_of AcceptsAtOnce (accepting ∷ []) (accepts_at_once, tt) }
 
 not_of : (n : ℕ) → All (IsNotOf n) smallest.callables
 not_of n = all_of (IsNotOf n) smallest.callables ((λ e. cc), (tt, (tt, (tt, (tt, (tt, (tt, tt)))))))
@@ -358,3 +406,6 @@ built =
       compute = empty_control 5 (shared InOut);
       deparser = empty_control 6 (parameter In (Struct 1) ∷ []);
     }
+
+pub some_built : (p : CoreProgram) × WellFormed p × Built p
+some_built = (smallest, well_formed, built)

@@ -1,6 +1,6 @@
 -- Programs for which tests are made so far: the parser accepts at once, and of the controls only ingress has statements,
 -- which set the port or drop the packet.
-use Rattle.std.specs.Prelude.{ℕ, ◌≡◌, ◌≢◌, ⊤, [], ◌∷◌, Some, length, slice_get, All, IsSomeAnd}
+use Rattle.std.specs.Prelude.{ℕ, ◌≡◌, ◌≢◌, ⊤, List, [], ◌∷◌, Some, length, slice_get, All, IsSomeAnd}
 use Rattle.p4_program.specs.declared.typed.callables.Target.TheVariants.{Accept}
 use Rattle.p4_program.specs.declared.typed.paths.Path.{Path}
 use Rattle.p4_program.specs.declared.typed.paths.Root.TheVariants.{OfBlock}
@@ -80,6 +80,7 @@ pub record AcceptsAtOnce (state : CoreState) : Type 0 where
 
 pub record BuiltParser (q : CoreParser) : Type 0 where
   pub no_variable : q.variables ≡ []
+  pub nothing_before : q.beginning ≡ NoStatements
   pub one_state : length q.states ≡ 1
   pub accepts : All AcceptsAtOnce q.states
 
@@ -100,10 +101,14 @@ pub record EmptyControl (p : CoreProgram) (n : ℕ) (c : CoreControl) : Type 0 w
   pub declares_nothing : DeclaresNothing p n c
   pub no_statement : c.body ≡ NoStatements
 
+-- no numbered statement stands in another callable than that of this number
+abbrev pub NoOtherNumbered : ℕ → List CoreCallable → Type 0
+NoOtherNumbered n cs = (k : ℕ) (d : CoreCallable) → k ≢ n → slice_get cs k ≡ Some d → CallableUnnumbered d
+
 pub record BuiltIngress (p : CoreProgram) (n : ℕ) (c : CoreControl) : Type 0 where
   pub declares_nothing : DeclaresNothing p n c
   pub statements : BuiltStatements c.body
-  pub no_other : (k : ℕ) (d : CoreCallable) → k ≢ n → slice_get p.callables k ≡ Some d → CallableUnnumbered d
+  pub no_other : NoOtherNumbered n p.callables
 
 -- something holds of the control of an instance and its number
 abbrev pub OfInstance : CoreProgram → ℕ → (ℕ → CoreControl → Type 0) → Type 0

@@ -4,3 +4,4 @@ pub mod Callables
 pub mod Programs
 pub mod Lookup
 pub mod Numbering
+pub mod Calls

@@ -7,13 +7,18 @@
 //! packet parameters. `specs/Syntax` has the same program without pointers, and what holds of every program.
 
 mod bounded_input;
+mod built_program;
+mod built_statements;
 mod callables;
 mod entries;
 mod expressions;
 mod input;
 mod instances;
 mod key_equality;
+pub mod laws;
 mod limits;
+mod numbered_places;
+mod opening_input;
 mod paths;
 mod program;
 mod shapes;
@@ -21,8 +26,10 @@ mod statements;
 mod table_names;
 mod tables;
 mod types;
+mod unnumbered;
 
 pub use bounded_input::bounded;
+pub use built_program::built;
 pub use callables::{
     Action, Callable, Control, Direction, Parameter, Parser, SelectCase, State, Target, Transition,
 };
@@ -34,9 +41,11 @@ pub use limits::{
     MAX_PATHS, MAX_SOURCE_BYTES, MAX_STACK_SIZE, MAX_STATES, MAX_TABLES, MAX_TOKENS,
     MAX_UNFOLDED_STATEMENTS,
 };
+pub use numbered_places::{Places, statement_places};
+pub use opening_input::opening;
 pub use paths::{Path, Root, Step};
 pub use program::Program;
-pub use shapes::{KeyShape, TableShape};
+pub use shapes::{KeyShape, TableShape, shape_of};
 pub use statements::{Algorithm, Argument, Label, Statement, SwitchCase, Work};
 pub use table_names::table_name;
 pub use tables::{ConstantEntry, ListedAction, MatchKind, Pattern, Table, TableKey};

@@ -10,6 +10,9 @@ pub record NumberedPlace : Type 0 where
   pub number : ℕ
   pub place : Span
 
+abbrev pub place_of : NumberedPlace → Span
+place_of s = s.place
+
 abbrev mutual
   pub numbered_in : CoreStatement → List NumberedPlace
   numbered_in (Numbered number place work) = record { number = number; place = place } ∷ []

@@ -7,6 +7,7 @@ use Rattle.p4_program.specs.declared.typed.statements.Work.{Work}
 use Rattle.p4_program.specs.declared.typed.statements.Work.TheVariants as work
 use Rattle.p4_program.specs.declared.typed.statements.Statement.{Statement, Row_of-Statement, end_of-Statement, more_of-Statement, Row_of-SwitchCase, end_of-SwitchCase, more_of-SwitchCase}
 use Rattle.p4_program.specs.declared.typed.statements.Statement.TheVariants as tree
+use Rattle.p4_program.specs.declared.typed.statements.SwitchCase.{SwitchCase}
 use Rattle.p4_program.specs.Syntax.Expressions.{CoreExpression}
 use Rattle.p4_program.specs.Syntax.Statements.{CoreArgument, CoreWork, CoreStatement, CoreStatements, CoreCases, NoStatements, Then, NoCases, Case}
 use Rattle.p4_program.specs.Syntax.Statements as core
@@ -68,3 +69,7 @@ abbrev mutual
 abbrev pub statements_of : List Statement → CoreStatements
 statements_of [] = NoStatements
 statements_of (s ∷ ss) = Then (statement_of s) (statements_of ss)
+
+abbrev pub switch_cases_of : List SwitchCase → CoreCases
+switch_cases_of [] = NoCases
+switch_cases_of (c ∷ cs) = Case c.labels (statements_of c.body.items) (switch_cases_of cs)

@@ -1,5 +1,5 @@
 -- Tables, actions, parsers and controls that fit a program.
-use Rattle.std.specs.Prelude.{ℕ, ◌≡◌, ◌≢◌, ◌≤◌, ◌<◌, ⊤, Bool, true, false, List, [], ◌++◌, length, map, Option, Some, None, slice_get, count_by, All, AllPairs, Any, IsSome, IsSomeAnd, ◌⊎◌}
+use Rattle.std.specs.Prelude.{ℕ, ◌≡◌, ◌≢◌, ◌≤◌, ◌<◌, ⊤, Bool, true, false, List, [], ◌++◌, length, map, Option, Some, None, slice_get, take, count_by, All, AllPairs, Any, IsSome, IsSomeAnd, ◌⊎◌}
 use Rattle.std.specs.List.{AllZip}
 use Rattle.std.specs.Option.{option_map_or}
 use Rattle.bits_core.specs.declared.number.Bits.{Bits}
@@ -95,6 +95,10 @@ parser_scope p n q =
       tables = [];
       children = [];
     }
+
+-- the scope of a table of a control, whose keys apply tables before it
+abbrev pub table_scope : CoreProgram → ℕ → CoreControl → ℕ → Scope
+table_scope p n c k = record (control_scope p n c) { tables = take k c.tables }
 
 -- the types of parameters and variables
 pub record FrameFits (p : CoreProgram) (ps : List Parameter) (ts : List ValueType) : Type 0 where
@@ -209,7 +213,7 @@ pub record ParserStands (p : CoreProgram) (n : ℕ) (q : CoreParser) : Type 0 wh
 pub record ControlStands (p : CoreProgram) (n : ℕ) (c : CoreControl) : Type 0 where
   pub frame_fits : FrameFits p c.parameters c.variables
   pub body_fits : AllFit (control_scope p n c) c.body
-  pub tables_fit : All (TableFits (control_scope p n c)) c.tables
+  pub tables_fit : (k : ℕ) (t : CoreTable) → slice_get c.tables k ≡ Some t → TableFits (table_scope p n c k) t
   -- a control has instances of controls before it
   pub children_earlier : All (λ k. k < n) c.children
   pub children_are : All (λ k. IsSome (control_at p k)) c.children

@@ -1,11 +1,11 @@
--- Well-formed programs. That the chains of calls and the paths are within the limits is not said here.
-use Rattle.std.specs.Prelude.{ℕ, ◌≡◌, ◌≢◌, ◌≤◌, ◌<◌, List, [], ◌∷◌, ◌++◌, length, map, flat_map, sum_by, Option, Some, None, option_map, option_and_then, slice_get, All, AllPairs, IsSomeAnd, IsPermutation}
+-- Well-formed programs.
+use Rattle.std.specs.Prelude.{ℕ, ◌≡◌, ◌≢◌, ◌+◌, ◌≤◌, ◌<◌, List, [], ◌∷◌, ◌++◌, length, map, flat_map, sum_by, Option, Some, None, option_map, option_and_then, slice_get, All, AllPairs, IsSomeAnd, IsPermutation}
 use Rattle.std.specs.Option.{option_map_or}
 use Rattle.p4_program.specs.declared.program.TheConstants.{MAX_STATEMENTS}
 use Rattle.p4_program.specs.declared.typed.callables.Direction.{Direction}
 use Rattle.p4_program.specs.declared.typed.callables.Direction.TheVariants.{In, Out, InOut}
 use Rattle.p4_program.specs.declared.typed.callables.Parameter.{Parameter}
-use Rattle.p4_program.specs.declared.typed.limits.TheConstants.{MAX_CONSTANT_ENTRIES, MAX_STATES, MAX_TABLES}
+use Rattle.p4_program.specs.declared.typed.limits.TheConstants.{MAX_CALL_DEPTH, MAX_CONSTANT_ENTRIES, MAX_PATHS, MAX_STATES, MAX_TABLES}
 use Rattle.p4_program.specs.declared.typed.instances.Instance.{Instance}
 use Rattle.p4_program.specs.declared.typed.instances.NamedTable.{NamedTable}
 use Rattle.p4_program.specs.declared.typed.types.ValueType.{ValueType}
@@ -18,7 +18,9 @@ use Rattle.p4_program.specs.Syntax.Numbering.{statements_numbered}
 use Rattle.p4_program.specs.Syntax.Programs.{CoreProgram}
 use Rattle.p4_program.specs.Syntax.Statements.{NoStatements}
 use Rattle.p4_program.specs.WellFormed.Callables.{CallableStands}
+use Rattle.p4_program.specs.WellFormed.Chains.{calls_at, ChainsWithin}
 use Rattle.p4_program.specs.WellFormed.Statements.{HoldsHeaders}
+use Rattle.p4_program.specs.WellFormed.Stores.{paths_of, locals_of}
 use Rattle.p4_program.specs.WellFormed.Types.{TypesFit, standard_metadata}
 
 -- "The P4 core library": the action that does nothing
@@ -103,6 +105,10 @@ pub record BlocksFit (p : CoreProgram) : Type 0 where
   pub egress : BlockHas p p.blocks.egress ((InOut, Struct headers) ∷ (InOut, metadata) ∷ (InOut, standard_metadata) ∷ [])
   pub compute : BlockHas p p.blocks.compute ((InOut, Struct headers) ∷ (InOut, metadata) ∷ [])
   pub deparser : BlockHas p p.blocks.deparser ((In, Struct headers) ∷ [])
+  -- the limit of a store: headers, metadata and the variables of one parser or control
+  pub few_paths :
+      (n : ℕ) (c : CoreCallable) → slice_get p.callables n ≡ Some c →
+      paths_of p (Struct headers) + paths_of p metadata + sum_by (paths_of p) (locals_of p n c) ≤ MAX_PATHS
 
 -- ---- the whole
 
@@ -115,12 +121,13 @@ constant_entries_of t = option_map_or length t.entries 0
 abbrev pub constant_entries_in : CoreCallable → ℕ
 constant_entries_in c = sum_by constant_entries_of (tables_in c)
 
--- tables, states and constant entries are counted as they are declared
+-- Tables, states and constant entries are counted as they are declared, and calls in what nothing calls too.
 pub record WithinLimits (p : CoreProgram) : Type 0 where
   pub tables : sum_by (λ c. length (tables_in c)) p.callables ≤ MAX_TABLES
   pub states : sum_by states_in p.callables ≤ MAX_STATES
   pub constant_entries : sum_by constant_entries_in p.callables ≤ MAX_CONSTANT_ENTRIES
   pub statements : length (statements_numbered p) ≤ MAX_STATEMENTS
+  pub chains : (n : ℕ) → n < length p.callables → ChainsWithin p MAX_CALL_DEPTH (calls_at p n)
 
 pub record WellFormed (p : CoreProgram) : Type 0 where
   pub types_fit : TypesFit p

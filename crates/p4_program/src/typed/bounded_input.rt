@@ -12,8 +12,11 @@ use crate::typed::input::{Entry, Input};
 use crate::typed::key_equality::same_keys;
 use crate::typed::program::Program;
 
-/// Whether the bounds allow the input for this program. It compares each entry with each other one, of which a table has at
-/// most as many as the bounds allow.
+/// Whether the bounds allow the input for this program, without memory.
+///
+/// The work is linear in the entries. A table has at most `MAX_ENTRIES` of them, and a program at most `MAX_TABLES` tables, so
+/// at most 256 entries come before one of a table that has too many, at which `few_entries` stops, and `all_apart` compares
+/// at most so many with each other, since it runs where no table has too many.
 pub fn bounded(program: &Program, bounds: Bounds, input: &Input) -> bool
     ensures { IsTrue result ↔ BoundedInput (core_of program.now) bounds input.now }
 {

@@ -28,7 +28,7 @@ pub const MAX_KEYS: usize = 16;
 pub const MAX_ACTIONS: usize = 64;
 
 /// The most members of an enum, and the most errors.
-pub const MAX_MEMBERS: u16 = 256;
+pub const MAX_MEMBERS: u32 = 256;
 
 /// The most elements of a stack.
 pub const MAX_STACK_SIZE: u8 = 16;

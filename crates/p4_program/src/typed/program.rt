@@ -2,7 +2,7 @@
 ghost use Rattle.p4_program.specs.Trees.Parts.{core_with};
 ghost use Rattle.p4_program.specs.WellFormed.Programs.{WellFormed};
 
-use crate::typed::callables::{Action, Callable};
+use crate::typed::callables::{Action, Callable, Control, Parser};
 use crate::typed::instances::{Blocks, Instance, NamedTable};
 use crate::typed::tables::Table;
 use crate::typed::types::{HeaderType, StructType};
@@ -16,7 +16,7 @@ pub struct Program {
     /// The struct types. The first is that of the standard metadata.
     pub structs: Items<StructType>,
     /// How many errors there are.
-    pub errors: u16,
+    pub errors: u32,
     /// The actions, parsers and controls in the order of the source, an action of a control before it. The first is
     /// `NoAction`.
     pub callables: Items<Callable>,
@@ -34,9 +34,10 @@ pub struct Program {
 impl Program {
     ghost use Rattle.std.specs.Prelude.{◌≡◌, option_map};
     ghost use Rattle.std.specs.Option.{option_copied};
-    ghost use Rattle.p4_program.specs.Syntax.Lookup.{table_at, action_at};
-    ghost use Rattle.p4_program.specs.Trees.Callables.{table_of, action_of};
+    ghost use Rattle.p4_program.specs.Syntax.Lookup.{table_at, action_at, control_at};
+    ghost use Rattle.p4_program.specs.Trees.Callables.{table_of, action_of, control_of, parser_of};
     ghost use Rattle.p4_program.specs.Trees.Programs.{core_of};
+    ghost use Rattle.p4_program.specs.WellFormed.Programs.{parser_at, control_of_instance};
 
     /// The table of this number among the tables of the program, where it has one.
     pub fn table(&self, number: u32) -> Option<&Table>
@@ -57,5 +58,32 @@ impl Program {
             Callable::OfAction(action) => Some(action),
             Callable::OfControl(_) | Callable::OfParser(_) => None,
         }
+    }
+
+    /// The control of this number among the callables, where one has it.
+    pub fn control(&self, number: u32) -> Option<&Control>
+        ensures { option_map control_of (option_copied result) ≡ control_at (core_of self.now) number }
+    {
+        match self.callables.get(number as usize)? {
+            Callable::OfControl(control) => Some(control),
+            Callable::OfAction(_) | Callable::OfParser(_) => None,
+        }
+    }
+
+    /// The parser of this number among the callables, where one has it.
+    pub fn parser(&self, number: u32) -> Option<&Parser>
+        ensures { option_map parser_of (option_copied result) ≡ parser_at (core_of self.now) number }
+    {
+        match self.callables.get(number as usize)? {
+            Callable::OfParser(parser) => Some(parser),
+            Callable::OfAction(_) | Callable::OfControl(_) => None,
+        }
+    }
+
+    /// The number of the control of which this instance is one, where there is the instance.
+    pub fn control_of(&self, instance: u32) -> Option<u32>
+        ensures { result ≡ control_of_instance (core_of self.now) instance }
+    {
+        Some(self.instances.get(instance as usize)?.control)
     }
 }

@@ -14,7 +14,7 @@ pub enum Scalar {
     /// This many bits: a `bit`, an `int`, a `bool`, which has one, or an enum over bits.
     Sized(u8),
     /// An error, or an enum without a width, by the number of the member from 0, of this many.
-    Members(u16),
+    Members(u32),
 }
 
 /// The type of a variable or of a path.
