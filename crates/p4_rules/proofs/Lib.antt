@@ -1,4 +1,7 @@
 pub mod CheckedLaws
 pub mod ExampleFaults
+pub mod RefusalLaws
+pub mod LeastLaws
 pub mod DecidingLaws
+pub mod RefusedLaws
 pub mod ExampleProgramLaws

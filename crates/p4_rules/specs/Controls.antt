@@ -21,7 +21,7 @@ use Rattle.p4_program.specs.Syntax.Callables.{CoreCallable, CoreControl, CoreTab
 use Rattle.p4_program.specs.Syntax.Callables as core
 use Rattle.p4_program.specs.Syntax.Statements.{CoreStatements}
 use Rattle.p4_program.specs.Syntax.Statements as statements
-use Rattle.p4_rules.specs.Chains.{depth_in, of_statements, below_actions}
+use Rattle.p4_rules.specs.Chains.{depth_in, of_statements, below_table}
 use Rattle.p4_rules.specs.declared.faults.Pass.TheVariants.{Checking}
 use Rattle.p4_rules.specs.Faults.{Checked, Right, Wrong, fault_at, provided, given, and_then, made_of, both, all_three, beside}
 use Rattle.p4_rules.specs.Integers.{fits_bit}
@@ -217,7 +217,7 @@ with_action Γ control a =
     behind_action Γ a (action_of Γ control a) (with_name Γ a.name.text (action_meaning Γ (action_of Γ control a)))
 
 abbrev pub table_depth : Scope → Checked TableMade → ℕ
-table_depth Γ (Right made) = below_actions Γ.depths (made.table.default_action ∷ map (λ l. l.action) made.table.actions)
+table_depth Γ (Right made) = below_table Γ.depths made.table (map (λ l. l.action) made.table.actions)
 table_depth Γ (Wrong fault more) = 0
 
 abbrev pub with_table : Scope → Table → Scope

@@ -1,4 +1,5 @@
 pub mod Faults
+pub mod Told
 pub mod Integers
 pub mod Types
 pub mod Scopes

@@ -1,12 +1,14 @@
 -- Names and scopes: what a name stands for, and where it is found.
-use Rattle.std.specs.Prelude.{true, false, ℕ, ◌==◌, List, [], ◌∷◌, ◌++◌, Bool, Option, None, Some, Result, ℤ, is_some, length, if◌then◌else◌, slice_get}
+use Rattle.std.specs.Prelude.{true, false, ℕ, ◌==◌, List, [], ◌∷◌, ◌++◌, map, Bool, Option, None, Some, Result, ℤ, is_some, length, if◌then◌else◌, slice_get}
 use Rattle.std.specs.Str.{bytes_eq}
 use Rattle.std.specs.Map.{lookup}
 use Rattle.tg_base.specs.declared.place.Span.{Span}
 use Rattle.tg_base.specs.declared.place.Code.TheVariants as code
 use Rattle.p4_tree.specs.declared.names.Name.{Name}
 use Rattle.p4_program.specs.declared.typed.paths.Root.{Root}
+use Rattle.p4_program.specs.declared.typed.types.HeaderType.{HeaderType}
 use Rattle.p4_program.specs.declared.typed.types.Scalar.TheVariants as scalar
+use Rattle.p4_program.specs.declared.typed.types.StructType.{StructType}
 use Rattle.p4_program.specs.declared.typed.types.ValueType.{ValueType}
 use Rattle.p4_program.specs.declared.typed.types.ValueType.TheVariants as value
 use Rattle.p4_rules.specs.Chains.{Depths}
@@ -22,6 +24,7 @@ use Rattle.p4_rules.specs.declared.scopes.Allowed.{Allowed}
 use Rattle.p4_rules.specs.declared.types.SourceType.{SourceType}
 use Rattle.p4_rules.specs.declared.types.Object.{Object}
 use Rattle.p4_rules.specs.declared.types.FieldOf.{FieldOf}
+use Rattle.p4_rules.specs.Types.{header_bits}
 use Rattle.p4_rules.specs.declared.types.SourceType.TheVariants.{Bit, Signed, Boolean, Error, Enumeration, BitEnumeration, Structure, Header, Stack}
 
 -- what a name stands for
@@ -179,6 +182,13 @@ value_type Γ (Structure n) = value.Struct n
 value_type Γ (Header n) = value.Header n
 value_type Γ (Stack n size) = value.Stack n size
 value_type Γ _ = value.Simple (scalar.Sized 1)
+
+-- what a run needs of a header and of a struct
+abbrev pub header_type : List FieldOf → HeaderType
+header_type fields = record { widths = map (λ field. header_bits field.type_of) fields }
+
+abbrev pub struct_type : Scope → List FieldOf → StructType
+struct_type Γ fields = record { fields = map (λ field. value_type Γ field.type_of) fields }
 
 -- the scope that knows the chains below a callable, a table or an instance
 abbrev pub with_callable_depth : ℕ → ℕ → Scope → Scope

@@ -1,7 +1,6 @@
 -- The limit of a store: the scalars, structs, headers and stacks in the headers of the packet, in the user's metadata and in the
 -- variables of one parser or control are counted together, each as one.
-use Rattle.std.specs.Prelude.{ℕ, ◌+◌, ◌*◌, ◌==◌, nat_le, List, [], ◌∷◌, ◌++◌, length, unwrap_or, slice_get, Bool, true, false, Option, None, Some, if◌then◌else◌}
-use Rattle.std.specs.List.{sum_by}
+use Rattle.std.specs.Prelude.{ℕ, ◌+◌, ◌==◌, nat_le, List, [], ◌∷◌, ◌++◌, length, map, Bool, true, false, Option, None, Some, if◌then◌else◌}
 use Rattle.std.specs.Str.{bytes_eq}
 use Rattle.tg_base.specs.declared.place.Span.{Span}
 use Rattle.p4_tree.specs.declared.declarations.DeclarationKind.{DeclarationKind}
@@ -23,13 +22,14 @@ use Rattle.p4_tree.specs.declared.statements.BlockPartKind.TheVariants as part
 use Rattle.p4_tree.specs.declared.statements.StatementKind.{StatementKind, end_of-Statement, more_of-Statement, Held-StatementKind-If-2, StatementKind-If-2-None', StatementKind-If-2-Some', Row_of-SwitchCase, end_of-SwitchCase, more_of-SwitchCase}
 use Rattle.p4_tree.specs.declared.statements.StatementKind.TheVariants as statement
 use Rattle.p4_tree.specs.declared.statements.SwitchCase.{SwitchCase', SwitchCase-body-None', SwitchCase-body-Some'}
+use Rattle.p4_program.specs.WellFormed.Stores.{paths_in}
 use Rattle.p4_rules.specs.Faults.{Checked, Right, Wrong, beside}
 use Rattle.p4_rules.specs.declared.types.SourceType.{SourceType}
 use Rattle.p4_rules.specs.declared.types.FieldOf.{FieldOf}
 use Rattle.p4_rules.specs.declared.types.SourceType.TheVariants.{Structure, Header, Stack}
 use Rattle.p4_rules.specs.declared.scopes.Allowed.{Allowed}
 use Rattle.p4_rules.specs.declared.scopes.ParameterShape.{ParameterShape}
-use Rattle.p4_rules.specs.Scopes.{Scope, within, listed, or_else}
+use Rattle.p4_rules.specs.Scopes.{Scope, within, or_else, value_type, header_type, struct_type}
 use Rattle.p4_rules.specs.Variables.{variable_type, with_constant, with_variable}
 use Rattle.p4_rules.specs.Statements.{behind_part}
 use Rattle.p4_rules.specs.Callables.{with_parameters, action_scope}
@@ -43,23 +43,8 @@ abbrev pub most_places : ℕ
 most_places = 4096
 
 -- how many there are in a value of a type: itself, and its parts
-abbrev pub header_count : List (List FieldOf) → ℕ → ℕ
-header_count headers n = 1 + length (listed (slice_get headers n))
-
-abbrev pub count_in : List ℕ → List (List FieldOf) → SourceType → ℕ
-count_in structs headers (Structure n) = unwrap_or (slice_get structs n) 0
-count_in structs headers (Header n) = header_count headers n
-count_in structs headers (Stack n size) = 1 + size * header_count headers n
-count_in structs headers t = 1
-
--- those of the structs, each of which has only such before it as its fields
-abbrev pub struct_counts : List (List FieldOf) → List ℕ → List (List FieldOf) → List ℕ
-struct_counts headers counts [] = counts
-struct_counts headers counts (fields ∷ more) =
-    struct_counts headers (counts ++ (1 + sum_by (λ f. count_in counts headers f.type_of) fields) ∷ []) more
-
 abbrev pub places_in : Scope → SourceType → ℕ
-places_in Γ t = count_in (struct_counts Γ.headers [] Γ.structs) Γ.headers t
+places_in Γ t = paths_in (map header_type Γ.headers) (map (struct_type Γ) Γ.structs) (value_type Γ t)
 
 -- a declaration that a store holds something for
 pub record Holding : Type 0 where

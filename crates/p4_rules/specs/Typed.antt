@@ -4,17 +4,13 @@ use Rattle.std.specs.List.{flat_map}
 use Rattle.tg_base.specs.declared.place.Refusal.{Refusal}
 use Rattle.tg_base.specs.declared.place.Span.{Span}
 use Rattle.p4_tree.specs.declared.declarations.Source.{Source}
-use Rattle.p4_program.specs.declared.typed.types.HeaderType.{HeaderType}
-use Rattle.p4_program.specs.declared.typed.types.StructType.{StructType}
 use Rattle.p4_program.specs.Syntax.Callables.{CoreCallable}
 use Rattle.p4_program.specs.Syntax.Callables as core
 use Rattle.p4_program.specs.Syntax.Statements as statements
 use Rattle.p4_program.specs.Syntax.Programs.{CoreProgram}
 use Rattle.p4_rules.specs.declared.faults.Fault.{Fault}
 use Rattle.p4_rules.specs.Faults.{Checked, Right, Wrong, faults_of, both, beside, Decides}
-use Rattle.p4_rules.specs.declared.types.FieldOf.{FieldOf}
-use Rattle.p4_rules.specs.Types.{header_bits}
-use Rattle.p4_rules.specs.Scopes.{Scope, value_type}
+use Rattle.p4_rules.specs.Scopes.{Scope, header_type, struct_type}
 use Rattle.p4_rules.specs.Core.{core_errors, core_scope}
 use Rattle.p4_rules.specs.Tops.{Roles, Pieces, tops, right_pieces, behind_tops}
 use Rattle.p4_rules.specs.Packages.{SixNumbers, blocks_named, roles_of, mains_of, before_main, package_of, switch_trees, switch_instances, placed_tables, named_table, core_instances, roots_of, blocks_at, names_once}
@@ -27,12 +23,6 @@ roles_in s = roles_of (blocks_named s)
 -- the scope before the source, which knows how many errors there will be
 abbrev pub first_scope : Source → Scope
 first_scope s = core_scope (length core_errors + length (flat_map errors_in (declarations_of s.parts)))
-
-abbrev pub header_type : List FieldOf → HeaderType
-header_type fields = record { widths = map (λ field. header_bits field.type_of) fields }
-
-abbrev pub struct_type : Scope → List FieldOf → StructType
-struct_type Γ fields = record { fields = map (λ field. value_type Γ field.type_of) fields }
 
 -- "The P4 core library": the action that does nothing, which is the first callable
 abbrev pub no_action : CoreCallable
