@@ -11,7 +11,8 @@ use Rattle.cnf_core.specs.declared.formula.Lit.{Lit}
 use Rattle.cnf_core.proofs.Literals.{lit-cases}
 use Rattle.unit_propagation.specs.Units.{IsWithin}
 use Rattle.unit_propagation.specs.declared.pair.Pair.{Pair}
-use Rattle.unit_propagation.specs.Watching.{Watched, IsIndexed, IsHeld, MovesWatch, ListsClause, IsOther, code_of, watches, pair_of, list_at, has}
+use Rattle.unit_propagation.specs.LitCodes.{code_of}
+use Rattle.unit_propagation.specs.Watching.{Watched, IsIndexed, IsHeld, MovesWatch, ListsClause, IsOther, watches, pair_of, list_at, has}
 use Rattle.unit_propagation.proofs.PairLemmas.{watches_cases, has_contains, watches_first, watches_second, watches_not, other_other, other_only, contains_has, code_same}
 use Rattle.unit_propagation.proofs.CountLemmas.{weight, count_le, count_lt}
 use Rattle.unit_propagation.proofs.ListLemmas.{contains_swap_remove, all_swap_remove, length_swap_remove}

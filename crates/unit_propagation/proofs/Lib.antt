@@ -14,3 +14,4 @@ pub mod StateLemmas
 pub mod ClauseStateLemmas
 pub mod PlainLemmas
 pub mod PropagationLaws
+pub mod ExtendsLaws

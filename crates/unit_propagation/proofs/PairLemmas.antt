@@ -5,7 +5,8 @@ use Rattle.std.proofs.lemmas.Bool.{or_cases, or_left, or_right, and_parts, and_f
 use Rattle.cnf_core.specs.declared.formula.Lit.{Lit}
 use Rattle.cnf_core.proofs.Literals.{lit_eq, lit_eq-true, lit_eq-itself, lit_eq-false, lit-same}
 use Rattle.unit_propagation.specs.declared.pair.Pair.{Pair}
-use Rattle.unit_propagation.specs.Watching.{code_of, watches, IsOther, has}
+use Rattle.unit_propagation.specs.LitCodes.{code_of}
+use Rattle.unit_propagation.specs.Watching.{watches, IsOther, has}
 
 not_true : (b : Bool) → b ≡ false → not b ≡ true
 not_true true e = cc

@@ -4,6 +4,7 @@ pub mod Units
 pub mod Assigned
 pub mod Fields
 pub mod Trail
+pub mod LitCodes
 pub mod Watching
 pub mod WatchedFields
 pub mod Ready

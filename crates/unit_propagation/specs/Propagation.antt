@@ -31,6 +31,15 @@ with_decision p l = record { width = p.width; clauses = p.clauses; trail = p.tra
 abbrev pub undone : Propagation → ℕ → Propagation
 undone p place = record { width = p.width; clauses = p.clauses; trail = take place p.trail; reasons = take place p.reasons }
 
+-- the same clauses, and more literals set
+pub record Extends (old new : Propagation) : Type 0 where
+  pub width : new.width ≡ old.width
+  pub clauses : new.clauses ≡ old.clauses
+  pub more : List Lit
+  pub trail : new.trail ≡ old.trail ++ more
+  pub more_reasons : List (Option ℕ)
+  pub reasons : new.reasons ≡ old.reasons ++ more_reasons
+
 -- literals were set that nobody decided
 pub record Continues (old new : Propagation) : Type 0 where
   pub width : new.width ≡ old.width

@@ -1,14 +1,11 @@
 -- Two watched literals for each clause, and for each literal the list of the clauses that watch it.
-use Rattle.std.specs.Prelude.{◌≡◌, ◌≢◌, ◌⊎◌, ◌&&◌, ◌||◌, ◌<◌, ◌≤◌, ◌+◌, ◌*◌, ◌∷◌, ◌++◌, [], ℕ, Bool, not, false, IsTrue, List, Some, All, Contains, length, count_by, slice_get, slice_index_or, slice_set, swap_remove, map, vec_capacity, Vec, if◌then◌else◌}
+use Rattle.std.specs.Prelude.{◌≡◌, ◌≢◌, ◌⊎◌, ◌&&◌, ◌||◌, ◌<◌, ◌≤◌, ◌*◌, ◌∷◌, ◌++◌, [], ℕ, Bool, not, false, IsTrue, List, Some, All, Contains, length, count_by, slice_get, slice_index_or, slice_set, swap_remove, map, vec_capacity, Vec}
 use Rattle.std.specs.Global.{Global}
 use Rattle.cnf_core.specs.declared.formula.Lit.{Lit}
 use Rattle.cnf_core.proofs.Literals.{lit_eq}
+use Rattle.unit_propagation.specs.LitCodes.{code_of}
 use Rattle.unit_propagation.specs.Units.{IsWithin}
 use Rattle.unit_propagation.specs.declared.pair.Pair.{Pair}
-
--- a literal's place among the lists
-abbrev pub code_of : Lit → ℕ
-code_of l = 2 * l.var + (if l.positive then 1 else 0)
 
 -- the literal is one of the two that are watched; none is where both are the same
 abbrev pub watches : Pair → Lit → Bool

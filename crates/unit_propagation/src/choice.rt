@@ -8,15 +8,10 @@ ghost use Rattle.unit_propagation.specs.Loose.{IsOne, IsFreePair, IsAnyPair, IsD
 ghost use Rattle.unit_propagation.specs.Ready.{AreFree, IsWatched};
 
 use crate::assignment::Assignment;
+use crate::lit_code::LitCode;
 use crate::pair::Pair;
 use crate::propagation::{find_other, is_false};
 use cnf_core::Lit;
-
-/// Stands for a literal where a clause has none.
-const NO_LITERAL: Lit = Lit {
-    var: 0,
-    positive: false,
-};
 
 /// The literals to watch, and a place of the trail: before it neither is falsified.
 #[derive(Clone, Copy, Debug)]
@@ -28,12 +23,12 @@ pub struct Choice {
 /// A literal, and a place of the trail: before it the literal is not falsified.
 #[derive(Clone, Copy, Debug)]
 pub struct LatePick {
-    pub literal: Lit,
+    pub literal: LitCode,
     pub place: usize,
 }
 
 impl Choice {
-    pub fn of(clause: &[Lit], assignment: &Assignment) -> Choice
+    pub fn of(clause: &[LitCode], assignment: &Assignment) -> Choice
         requires { IsWithin assignment.now.width clause.now }
         ensures stands { (l : Literal) → IsTrue (watches result.pair l) → Contains clause.now l }
         ensures free { IsWatched result.pair
@@ -56,7 +51,7 @@ impl Choice {
 }
 
 /// The two literals that are falsified last.
-fn late_pair(clause: &[Lit], assignment: &Assignment) -> Option<Choice>
+fn late_pair(clause: &[LitCode], assignment: &Assignment) -> Option<Choice>
     requires { IsWithin assignment.now.width clause.now }
     ensures stands { IfSome result (λ c. (l : Literal)
         → IsTrue (watches c.pair l) → Contains clause.now l) }
@@ -75,7 +70,7 @@ fn late_pair(clause: &[Lit], assignment: &Assignment) -> Option<Choice>
 }
 
 /// A literal that is not falsified, or the one that is falsified last.
-fn latest(clause: &[Lit], assignment: &Assignment) -> Option<LatePick>
+fn latest(clause: &[LitCode], assignment: &Assignment) -> Option<LatePick>
     requires { IsWithin assignment.now.width clause.now }
     ensures { IfSome result (λ pick. IsPick assignment.now.trail clause.now pick) }
 {
@@ -87,29 +82,36 @@ fn latest(clause: &[Lit], assignment: &Assignment) -> Option<LatePick>
 }
 
 /// The last literal that is falsified before a place.
-fn latest_before(clause: &[Lit], assignment: &Assignment, before: usize) -> Option<LatePick>
+fn latest_before(clause: &[LitCode], assignment: &Assignment, before: usize) -> Option<LatePick>
     requires { before ≤ length assignment.now.trail }
     ensures { IfSome result (λ pick. IsPickBefore assignment.now.trail clause.now before pick) }
 {
     let mut place = before;
     while place > 0 {
         place -= 1;
-        let literal = !assignment.nth(place);
-        if contains(clause, literal) {
+        let falsified = !assignment.nth(place);
+        if let Some(literal) = find(clause, falsified) {
             return Some(LatePick { literal, place });
         }
     }
     None
 }
 
-fn contains(clause: &[Lit], l: Lit) -> bool
-    ensures { IsTrue result ↔ Contains clause.now l }
+/// The literal, where it stands in the clause.
+fn find(clause: &[LitCode], l: Lit) -> Option<LitCode>
+    ensures is { IfSome result (λ k. k ≡ l) }
+    ensures stands { IfSome result (λ k. Contains clause.now k) }
 {
-    clause.iter().any(|k| *k == l)
+    for k in clause {
+        if k.lit() == l {
+            return Some(*k);
+        }
+    }
+    None
 }
 
 /// Two literals that differ and are not false.
-fn free_pair(clause: &[Lit], assignment: &Assignment) -> Option<Pair>
+fn free_pair(clause: &[LitCode], assignment: &Assignment) -> Option<Pair>
     requires { IsWithin assignment.now.width clause.now }
     ensures { IfSome result (λ p. IsFreePair assignment.now.trail clause.now p) }
 {
@@ -119,7 +121,7 @@ fn free_pair(clause: &[Lit], assignment: &Assignment) -> Option<Pair>
 }
 
 /// A literal that is not false.
-fn find_free(clause: &[Lit], assignment: &Assignment) -> Option<Lit>
+fn find_free(clause: &[LitCode], assignment: &Assignment) -> Option<LitCode>
     requires { IsWithin assignment.now.width clause.now }
     ensures stands { IfSome result (λ l. Contains clause.now l) }
     ensures free { IfSome result (λ l. ¬ IsFalse assignment.now.trail l) }
@@ -133,13 +135,13 @@ fn find_free(clause: &[Lit], assignment: &Assignment) -> Option<Lit>
 }
 
 /// Two literals that differ, where there are such.
-fn any_pair(clause: &[Lit]) -> Pair
+fn any_pair(clause: &[LitCode]) -> Pair
     ensures { IsAnyPair clause.now result }
 {
     let Some(first) = clause.first() else {
         return Pair {
-            first: NO_LITERAL,
-            second: NO_LITERAL,
+            first: LitCode::default(),
+            second: LitCode::default(),
         };
     };
     Pair {
@@ -149,7 +151,7 @@ fn any_pair(clause: &[Lit]) -> Pair
 }
 
 /// A literal that is not this one, or this one where there is no other.
-fn differing(clause: &[Lit], l: Lit) -> Lit
+fn differing(clause: &[LitCode], l: LitCode) -> LitCode
     ensures { IsDiffering clause.now l result }
 {
     for k in clause {

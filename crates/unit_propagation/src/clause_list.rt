@@ -3,14 +3,14 @@
 ghost use Rattle.std.specs.Prelude.{◌≡◌, ◌<◌, ◌≤◌, ◌-◌, ◌^◌, ◌++◌, ◌∷◌, [], OnOk, OnErr, IfSome, IfNone, length, take, drop, slice_index_or};
 ghost use Rattle.unit_propagation.specs.ClauseLists.{start_at};
 
-use cnf_core::Lit;
+use crate::lit_code::LitCode;
 use std::alloc::{AllocError, Global};
 use std::marker::Model;
 
 /// Clauses, numbered from 0, as the literals of all and where each clause ends. Past 2^32 literals there is no room.
 #[derive(Drop)]
 pub struct ClauseList {
-    literals: Vec<Lit>,
+    literals: Vec<LitCode>,
     ends: Vec<u32>,
 }
 
@@ -46,7 +46,7 @@ impl ClauseList {
     }
 
     /// The literals of the clause.
-    pub fn literals(&self, clause: usize) -> &[Lit]
+    pub fn literals(&self, clause: usize) -> &[LitCode]
         requires { clause < length self.now }
         ensures { result.now ≡ slice_index_or self.now clause [] }
     {
@@ -55,7 +55,7 @@ impl ClauseList {
     }
 
     /// Adds the clause at the end.
-    pub fn push(&mut self, clause: &[Lit]) -> Result<(), AllocError>
+    pub fn push(&mut self, clause: &[LitCode]) -> Result<(), AllocError>
         ensures pushed { OnOk result (self.new ≡ self.old ++ clause.now ∷ []) }
         ensures kept { OnErr result (self.new ≡ self.old) }
     {
@@ -70,7 +70,7 @@ impl ClauseList {
 }
 
 /// The literals between two places.
-fn part(literals: &[Lit], start: usize, end: usize) -> &[Lit]
+fn part(literals: &[LitCode], start: usize, end: usize) -> &[LitCode]
     requires ordered { start ≤ end }
     requires inside { end ≤ length literals.now }
     ensures { result.now ≡ take (end - start) (drop start literals.now) }

@@ -5,6 +5,7 @@ ghost use Rattle.unit_propagation.specs.ClauseStates.{IsState, SaysWith};
 ghost use Rattle.unit_propagation.specs.Units.{IsWithin};
 
 use crate::assignment::{Assignment, Truth};
+use crate::lit_code::LitCode;
 use cnf_core::Lit;
 
 /// What a clause says under an assignment.
@@ -19,13 +20,13 @@ pub enum ClauseState {
 }
 
 impl ClauseState {
-    pub fn of(clause: &[Lit], assignment: &Assignment) -> ClauseState
+    pub fn of(clause: &[LitCode], assignment: &Assignment) -> ClauseState
         requires { IsWithin assignment.now.width clause.now }
         ensures { IsState assignment.now.trail clause.now result }
     {
         let mut state = ClauseState::Falsified;
         for l in clause {
-            state = state.with(*l, assignment);
+            state = state.with(l.lit(), assignment);
             if let ClauseState::Other = state {
                 return ClauseState::Other;
             }

@@ -1,5 +1,5 @@
 //! What holds of the definitions, the contract of a function that does nothing. A proof above may cite the lemmas of
-//! `PropagationLaws` and `ApartLaws`.
+//! `PropagationLaws`, `ApartLaws` and `ExtendsLaws`.
 ghost use Rattle.std.specs.Prelude.{Bool, List, All};
 ghost use Rattle.cnf_core.specs.Truth.{IsTrueUnder, SatisfiesAll};
 ghost use Rattle.unit_propagation.specs.Propagation.{Propagation, IsSatisfiedIfTotal};

@@ -7,6 +7,7 @@ mod choice;
 mod clause_list;
 mod clause_state;
 pub mod laws;
+mod lit_code;
 mod loose;
 mod pair;
 mod plain;
@@ -17,4 +18,5 @@ mod watched_clauses;
 
 pub use assignment::{Assignment, Cause, Truth};
 pub use clause_state::ClauseState;
+pub use lit_code::LitCode;
 pub use propagator::Propagator;

@@ -86,12 +86,12 @@ fn is_falsified(watched: &WatchedClauses, assignment: &mut Assignment, number: u
     let Some(l) = watched.literals(number).first() else {
         return true;
     };
-    match assignment.value(*l) {
+    match assignment.value(l.lit()) {
         Truth::True => false,
         Truth::False => true,
         Truth::Open => {
             assignment.set(
-                *l,
+                l.lit(),
                 Cause {
                     reason: Some(number),
                     ended: false,
@@ -103,9 +103,9 @@ fn is_falsified(watched: &WatchedClauses, assignment: &mut Assignment, number: u
 }
 
 /// Adds the clause to those without two different literals, if it is one. There is room.
-pub fn note_loose(loose: &mut Vec<usize>, pair: Pair, number: usize)
+pub fn note_loose(loose: &mut Vec<usize>, pair: &Pair, number: usize)
     requires { vec_len loose.old < vec_capacity loose.old }
-    ensures { NotesLoose pair number loose.old.items loose.new.items }
+    ensures { NotesLoose pair.now number loose.old.items loose.new.items }
 {
     if !pair.is_watched() {
         loose.push_reserved(number);

@@ -9,8 +9,8 @@ ghost use Rattle.unit_propagation.specs.Propagated.{AreAllSet};
 ghost use Rattle.unit_propagation.specs.Plain.{Grew, IsPass};
 
 use crate::assignment::{Assignment, Cause};
+use crate::clause_list::ClauseList;
 use crate::clause_state::ClauseState;
-use cnf_core::Clause;
 
 /// How a pass over the clauses ended.
 #[derive(Clone, Copy, Debug)]
@@ -22,7 +22,7 @@ pub enum Pass {
 
 /// Whether full propagation from the literals of the assignment conflicts. Where it does not, the
 /// assignment has what it sets.
-pub fn propagate(clauses: &[Clause], assignment: &mut Assignment) -> bool
+pub fn propagate(clauses: &ClauseList, assignment: &mut Assignment) -> bool
     requires within { All (IsWithin assignment.old.width) clauses.now }
     requires fits { length assignment.old.trail ≤ assignment.old.width }
     ensures conflict { IsTrue result ↔ Conflicts clauses.now assignment.old.trail }
@@ -39,7 +39,7 @@ pub fn propagate(clauses: &[Clause], assignment: &mut Assignment) -> bool
     }
 }
 
-fn one_pass(clauses: &[Clause], assignment: &mut Assignment) -> Pass
+fn one_pass(clauses: &ClauseList, assignment: &mut Assignment) -> Pass
     requires within { All (IsWithin assignment.old.width) clauses.now }
     requires fits { length assignment.old.trail ≤ assignment.old.width }
     ensures grew { Grew clauses.now assignment.old.trail assignment.new.trail }
@@ -49,7 +49,7 @@ fn one_pass(clauses: &[Clause], assignment: &mut Assignment) -> Pass
 {
     let mut changed = false;
     for number in 0..clauses.len() {
-        match ClauseState::of(clauses[number].as_slice(), assignment) {
+        match ClauseState::of(clauses.literals(number), assignment) {
             ClauseState::Falsified => return Pass::Conflict,
             ClauseState::Unit(l) => {
                 assignment.set(l, Cause::implied(number));

@@ -8,6 +8,7 @@ ghost use Rattle.unit_propagation.specs.Ready.{KeepsAll, Implied, IsSeen, IsWhol
 ghost use Rattle.unit_propagation.specs.Propagated.{IsFalseClause};
 
 use crate::assignment::{Assignment, Cause, Truth};
+use crate::lit_code::LitCode;
 use crate::watched_clauses::WatchedClauses;
 use cnf_core::Lit;
 
@@ -104,7 +105,7 @@ fn step(
     let Some(other) = watched.pair(number).other(falsified) else {
         return Seen::Kept;
     };
-    let truth = assignment.value(other);
+    let truth = assignment.value(other.lit());
     if let Truth::True = truth {
         return Seen::Kept;
     }
@@ -116,7 +117,7 @@ fn step(
         return Seen::Falsified;
     }
     assignment.set(
-        other,
+        other.lit(),
         Cause {
             reason: Some(number),
             ended: false,
@@ -126,7 +127,7 @@ fn step(
 }
 
 /// A literal of the clause beside this one that is not false.
-pub fn find_other(clause: &[Lit], other: Lit, assignment: &Assignment) -> Option<Lit>
+pub fn find_other(clause: &[LitCode], other: LitCode, assignment: &Assignment) -> Option<LitCode>
     requires { IsWithin assignment.now.width clause.now }
     ensures found { IfSome result (λ l. IsFree assignment.now.trail clause.now other l) }
     ensures none { IfNone result (All (λ k. k ≢ other → IsFalse assignment.now.trail k) clause.now) }
@@ -140,9 +141,9 @@ pub fn find_other(clause: &[Lit], other: Lit, assignment: &Assignment) -> Option
 }
 
 /// Whether the literal's negation is set.
-pub fn is_false(assignment: &Assignment, l: Lit) -> bool
+pub fn is_false(assignment: &Assignment, l: LitCode) -> bool
     requires { l.var < assignment.now.width }
     ensures { IsTrue result ↔ IsFalse assignment.now.trail l }
 {
-    matches!(assignment.value(l), Truth::False)
+    matches!(assignment.value(l.lit()), Truth::False)
 }

@@ -11,6 +11,7 @@ ghost use Rattle.unit_propagation.specs.Propagation.{FollowsAs, IsFull, IsSatisf
 
 use crate::assignment::{Assignment, Cause, Truth};
 use crate::choice::Choice;
+use crate::lit_code::{LitCode, codes};
 use crate::loose::{LooseClauses, note_loose, set_loose};
 use crate::propagation::run;
 use crate::watched_clauses::WatchedClauses;
@@ -22,6 +23,7 @@ use std::marker::Model;
 /// set, each with its reason. Only `grow` and `add_clause` take memory.
 #[derive(Drop)]
 pub struct Propagator {
+    alloc: Global,
     watched: WatchedClauses,
     assignment: Assignment,
     loose: LooseClauses,
@@ -48,6 +50,7 @@ impl Propagator {
         ensures trail { result.trail ≡ [] }
     {
         Propagator {
+            alloc,
             watched: WatchedClauses::new(alloc),
             assignment: Assignment::new(alloc),
             loose: LooseClauses::new(alloc),
@@ -76,11 +79,12 @@ impl Propagator {
         ensures added { OnOk result (self.new ≡ with_clause self.old clause) }
         ensures kept { OnErr result (self.new ≡ self.old) }
     {
+        let clause = codes(self.alloc, clause.as_slice())?;
         let choice = Choice::of(clause.as_slice(), &self.assignment);
         self.loose.numbers.reserve(1)?;
         let number = self.watched.clause_count();
-        self.watched.add(clause.as_slice(), choice.pair)?;
-        note_loose(&mut self.loose.numbers, choice.pair, number);
+        self.watched.add(clause.as_slice(), &choice.pair)?;
+        note_loose(&mut self.loose.numbers, &choice.pair, number);
         self.assignment.forget_ends(choice.place);
         self.head = self.head.min(choice.place);
         Ok(())
@@ -146,7 +150,7 @@ impl Propagator {
     }
 
     /// The literals of the clause of that number, from 0 in the order in which the clauses were added.
-    pub fn literals(&self, clause: usize) -> &[Lit]
+    pub fn literals(&self, clause: usize) -> &[LitCode]
         requires { clause < length self.now.clauses }
         ensures are { result.now ≡ slice_index_or self.now.clauses clause [] }
         ensures within { IsWithin self.now.width result.now }

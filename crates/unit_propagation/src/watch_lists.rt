@@ -1,10 +1,12 @@
 //! The lists of clauses by their watched literals, and the room in them.
 
 ghost use Rattle.std.specs.Prelude.{◌≡◌, ◌<◌, ◌≤◌, ℕ, All, OnOk, length, slice_index_or, vec_capacity};
-ghost use Rattle.unit_propagation.specs.Watching.{code_of, appended, items_of, rooms_of};
+ghost use Rattle.unit_propagation.specs.LitCodes.{code_of};
+ghost use Rattle.unit_propagation.specs.Watching.{appended, items_of, rooms_of};
 ghost use Rattle.unit_propagation.specs.Watching.{AtMost, Fits, Grows, HasLess, HasRoom};
 ghost use Rattle.unit_propagation.specs.Watching.{ListsClause, ListsRoom, SameLists};
 
+use crate::lit_code::LitCode;
 use crate::pair::Pair;
 use cnf_core::Lit;
 use std::alloc::{AllocError, Global};
@@ -30,7 +32,7 @@ pub fn add_lists(alloc: Global, lists: &mut Vec<Vec<u32>>, count: usize) -> Resu
 }
 
 /// Makes numbers 0 up to a count of them.
-pub fn add_zeros(held: &mut Vec<usize>, count: usize) -> Result<(), AllocError>
+pub fn add_zeros(held: &mut Vec<u32>, count: usize) -> Result<(), AllocError>
     ensures size { OnOk result (count ≤ length held.new.items) }
     ensures longer { length held.old.items ≤ length held.new.items }
     ensures same { (i : ℕ) → slice_index_or held.new.items i 0 ≡ slice_index_or held.old.items i 0 }
@@ -44,8 +46,8 @@ pub fn add_zeros(held: &mut Vec<usize>, count: usize) -> Result<(), AllocError>
 /// Makes room for one more clause in the list of each of its literals.
 pub fn make_room(
     lists: &mut Vec<Vec<u32>>,
-    held: &mut Vec<usize>,
-    clause: &[Lit],
+    held: &mut Vec<u32>,
+    clause: &[LitCode],
 ) -> Result<(), AllocError>
     requires lists { All (λ l. code_of l < length lists.old.items) clause.now }
     requires numbers { All (λ l. code_of l < length held.old.items) clause.now }
@@ -57,16 +59,12 @@ pub fn make_room(
     ensures room { HasRoom held.new.items (rooms_of lists.new.items) }
 {
     for l in clause {
-        make_room_at(lists, held, code(*l))?;
+        make_room_at(lists, held, l.place())?;
     }
     Ok(())
 }
 
-fn make_room_at(
-    lists: &mut Vec<Vec<u32>>,
-    held: &mut Vec<usize>,
-    at: usize,
-) -> Result<(), AllocError>
+fn make_room_at(lists: &mut Vec<Vec<u32>>, held: &mut Vec<u32>, at: usize) -> Result<(), AllocError>
     requires lists { at < length lists.old.items }
     requires numbers { at < length held.old.items }
     requires room { HasRoom held.old.items (rooms_of lists.old.items) }
@@ -79,7 +77,7 @@ fn make_room_at(
     let Some(wanted) = held[at].checked_add(1) else {
         return Err(AllocError);
     };
-    reserve_for(&mut lists[at], wanted)?;
+    reserve_for(&mut lists[at], wanted as usize)?;
     held[at] = wanted;
     Ok(())
 }
@@ -98,10 +96,10 @@ fn reserve_for(list: &mut Vec<u32>, wanted: usize) -> Result<(), AllocError>
 }
 
 /// Puts the clause at the end of the lists of its watched literals, which have room.
-pub fn list_clause(lists: &mut Vec<Vec<u32>>, pair: Pair, number: u32)
-    requires { ListsRoom pair (items_of lists.old.items) (rooms_of lists.old.items) }
+pub fn list_clause(lists: &mut Vec<Vec<u32>>, pair: &Pair, number: u32)
+    requires { ListsRoom pair.now (items_of lists.old.items) (rooms_of lists.old.items) }
     ensures size { length lists.new.items ≡ length lists.old.items }
-    ensures listed { ListsClause pair number (items_of lists.old.items) (items_of lists.new.items) }
+    ensures listed { ListsClause pair.now number (items_of lists.old.items) (items_of lists.new.items) }
     ensures rooms { AtMost (rooms_of lists.old.items) (rooms_of lists.new.items) }
 {
     if pair.is_watched() {
@@ -111,13 +109,13 @@ pub fn list_clause(lists: &mut Vec<Vec<u32>>, pair: Pair, number: u32)
 }
 
 /// Puts the clause at the end of the literal's list, which has room.
-pub fn append(lists: &mut Vec<Vec<u32>>, l: Lit, number: u32)
+pub fn append(lists: &mut Vec<Vec<u32>>, l: LitCode, number: u32)
     requires inside { code_of l < length lists.old.items }
     requires room { Fits (items_of lists.old.items) (rooms_of lists.old.items) l }
     ensures size { length lists.new.items ≡ length lists.old.items }
     ensures lists { items_of lists.new.items ≡ appended (items_of lists.old.items) l number }
     ensures rooms { AtMost (rooms_of lists.old.items) (rooms_of lists.new.items) }
 {
-    let list = &mut lists[code(l)];
+    let list = &mut lists[l.place()];
     list.push_reserved(number);
 }

@@ -6,6 +6,7 @@ ghost use Rattle.cnf_core.specs.declared.formula.Lit.{Lit as Literal};
 ghost use Rattle.unit_propagation.specs.Watching.{watches, list_at, pair_of, IsIndexed, LeavesList, MovesWatch};
 
 use crate::clause_list::{ClauseList, short};
+use crate::lit_code::LitCode;
 use crate::pair::Pair;
 use crate::watch_lists::{add_lists, add_zeros, append, code, list_clause, make_room};
 use cnf_core::Lit;
@@ -20,7 +21,7 @@ pub struct WatchedClauses {
     clauses: ClauseList,
     pairs: Vec<Pair>,
     lists: Vec<Vec<u32>>,
-    held: Vec<usize>,
+    held: Vec<u32>,
 }
 
 impl Model for WatchedClauses {
@@ -71,12 +72,12 @@ impl WatchedClauses {
     }
 
     /// Adds the clause with its watched literals at the end.
-    pub fn add(&mut self, clause: &[Lit], pair: Pair) -> Result<(), AllocError>
+    pub fn add(&mut self, clause: &[LitCode], pair: &Pair) -> Result<(), AllocError>
         requires within { IsWithin self.old.width clause.now }
-        requires stands { (l : Literal) → IsTrue (watches pair l) → Contains clause.now l }
+        requires stands { (l : Literal) → IsTrue (watches pair.now l) → Contains clause.now l }
         ensures width { self.new.width ≡ self.old.width }
         ensures clauses { OnOk result (self.new.clauses ≡ self.old.clauses ++ clause.now ∷ []) }
-        ensures pairs { OnOk result (self.new.pairs ≡ self.old.pairs ++ pair ∷ []) }
+        ensures pairs { OnOk result (self.new.pairs ≡ self.old.pairs ++ pair.now ∷ []) }
         ensures kept { OnErr result (self.new.clauses ≡ self.old.clauses) }
         ensures pairs_kept { OnErr result (self.new.pairs ≡ self.old.pairs) }
     {
@@ -87,7 +88,7 @@ impl WatchedClauses {
         self.pairs.reserve(1)?;
         self.clauses.push(clause)?;
         list_clause(&mut self.lists, pair, number);
-        self.pairs.push_reserved(pair);
+        self.pairs.push_reserved(*pair);
         Ok(())
     }
 
@@ -108,7 +109,7 @@ impl WatchedClauses {
     }
 
     /// The literals of the clause.
-    pub fn literals(&self, clause: usize) -> &[Lit]
+    pub fn literals(&self, clause: usize) -> &[LitCode]
         requires { clause < length self.now.clauses }
         ensures are { result.now ≡ slice_index_or self.now.clauses clause [] }
         ensures within { IsWithin self.now.width result.now }
@@ -146,7 +147,7 @@ impl WatchedClauses {
     }
 
     /// Watches the clause, which is at that place of a watched literal's list, at another literal.
-    pub fn rewatch(&mut self, clause: usize, from: Lit, place: usize, other: Lit, to: Lit)
+    pub fn rewatch(&mut self, clause: usize, from: Lit, place: usize, other: LitCode, to: LitCode)
         requires from_within { from.var < self.old.width }
         requires to_within { to.var < self.old.width }
         requires moves { MovesWatch self.old clause from place other to }

@@ -1,7 +1,7 @@
 -- A clause that is falsified ends the pass, a unit makes the trail grow, and another clause goes to those that say nothing.
-use Rattle.std.proofs.Common.{◌≡◌, ◌≤◌, ◌+◌, ◌++◌, ◌∷◌, [], false, List, length, length-append, take, sym, ap, subst, ◌∙◌, arith}
+use Rattle.std.proofs.Common.{◌≡◌, ◌≤◌, ◌<◌, ◌+◌, ◌++◌, ◌∷◌, [], false, List, length, length-append, get_or, take, sym, ap, subst, ◌∙◌, arith}
 use Rattle.std.specs.Prelude.{All, Contains}
-use Rattle.std.proofs.lemmas.List.{take_more, take_all}
+use Rattle.std.proofs.lemmas.List.{take_more, take_all, get_or_default}
 use Rattle.cnf_core.specs.declared.formula.Lit.{Lit}
 use Rattle.unit_propagation.specs.Units.{IsFalse, IsUnit}
 use Rattle.unit_propagation.specs.Assigned.{Assigned}
@@ -15,29 +15,32 @@ use Rattle.unit_propagation.proofs.plain.one_pass.Goals as goal
 use Rattle.unit_propagation.proofs.plain.one_pass.Goals.{in-Unit, in-Other}
 
 pub returns-in-Falsified-clause-end : goal.returns-in-Falsified-clause-end
-returns-in-Falsified-clause-end c = (
-  c.loop-number.number,
-  c.index-clauses-number.result,
-  c.loop-number-test.true,
-  sym c.index-clauses-number.is,
-  subst (All (IsFalse c.loop-number.assignment.trail)) c.as_slice.ensures c.in-Falsified.ensures,
-)
+returns-in-Falsified-clause-end c =
+    let clauses = c.args.clauses.now in
+    let i = c.loop-number.number in
+    let inside : i < length clauses = omega (arith, c.loop-number-test.true, c.len-number-end.ensures) in (
+      i,
+      get_or clauses i [],
+      inside,
+      get_or_default clauses i (get_or clauses i []) [] inside,
+      subst (All (IsFalse c.loop-number.assignment.trail)) c.literals.ensures c.in-Falsified.ensures,
+    )
 
 pub loop-number-preserved : goal.loop-number-preserved
 loop-number-preserved c =
     let clauses = c.args.clauses.now in
     let i = c.loop-number.number in
-    let clause = c.index-clauses-number.result in
+    let clause = get_or clauses i [] in
+    let inside : i < length clauses = omega (arith, c.loop-number-test.true, c.len-number-end.ensures) in
     let old = c.args.assignment.now.trail in
     let trail = c.loop-number.assignment.trail in
     let inv = c.loop-number.invariant in
-    let stands : Contains clauses clause = (i, c.loop-number-test.true, sym c.index-clauses-number.is) in
-    let more : take (i + 1) clauses ≡ take i clauses ++ clause ∷ [] =
-    take_more clauses i clause c.loop-number-test.true ∙ ap (λ (c' : List Lit). take i clauses ++ c' ∷ []) (sym c.index-clauses-number.is) in
+    let stands : Contains clauses clause = (i, inside, get_or_default clauses i clause [] inside) in
+    let more : take (i + 1) clauses ≡ take i clauses ++ clause ∷ [] = take_more clauses i [] inside in
     elim c.match-of.branch [
       | in-Unit w ↦
           let l = w.in-Unit.l in
-          let unit : IsUnit trail clause l = subst (λ (lits : List Lit). IsUnit trail lits l) c.as_slice.ensures w.in-Unit.ensures in
+          let unit : IsUnit trail clause l = subst (λ (lits : List Lit). IsUnit trail lits l) c.literals.ensures w.in-Unit.ensures in
           let longer : length (trail ++ l ∷ []) ≡ length trail + 1 = omega (arith, length-append trail (l ∷ [])) in
           let grew : Grew clauses old (trail ++ l ∷ []) = grew_unit clauses old trail clause l inv.grew stands unit in
           let trail_is : c.match-of.assignment.trail ≡ trail ++ l ∷ [] = ap (λ (a : Assigned). a.trail) w.assignment-is ∙ w.set.ensures.trail in
@@ -50,7 +53,7 @@ loop-number-preserved c =
             so_far = rw (w.changed-is, trail_is) (omega (arith, longer, inv.grows));
           }
       | in-Other w ↦
-          let says : IsState trail clause Other = subst (λ (lits : List Lit). IsState trail lits Other) c.as_slice.ensures w.in-Other.ensures in
+          let says : IsState trail clause Other = subst (λ (lits : List Lit). IsState trail lits Other) c.literals.ensures w.in-Other.ensures in
           let so_far : SoFar (take (i + 1) clauses) old trail c.loop-number.changed =
           rw more (so_far_other (take i clauses) clause old trail c.loop-number.changed inv.so_far says) in
           subst (λ (a : Assigned). record {
@@ -74,4 +77,4 @@ returns-else-changed-clause-end c =
     let i = c.loop-number.number in
     let fixed : SoFar (take i clauses) c.args.assignment.now.trail c.loop-number.assignment.trail false =
     subst (SoFar (take i clauses) c.args.assignment.now.trail c.loop-number.assignment.trail) c.if-changed.false c.loop-number.invariant.so_far in
-    subst (All (SaysNothing c.loop-number.assignment.trail)) (take_all i clauses c.loop-number-test.false) fixed
+    subst (All (SaysNothing c.loop-number.assignment.trail)) (take_all i clauses (omega (arith, c.loop-number-test.false, c.len-number-end.ensures))) fixed

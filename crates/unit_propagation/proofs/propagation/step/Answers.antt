@@ -57,6 +57,7 @@ value-truth-requires c =
     let n = c.nth-number.result in
     let stands = stands_other w n c.pair.result c.args.falsified c.in-Some.other c.pair.ensures.indexed c.nth-number.ensures.exists c.pair.ensures.is c.in-Some.ensures.watched [] in
     let below = within_clause w n c.in-Some.other c.pair.ensures.indexed c.nth-number.ensures.exists stands in
+    let same : c.lit.result.var ≡ c.in-Some.other.var = ap (λ (l : Lit). l.var) c.lit.ensures in
     omega (arith, c.requires.width)
 
 pub returns-in-True-clause-seen : goal.returns-in-True-clause-seen
@@ -69,7 +70,7 @@ returns-in-True-clause-seen c =
       implies_none w.clauses trail c.args.assignment.now.causes,
       inr (λ clause. subst (λ (k : ℕ). Any (Contains trail) (get_or w.clauses k clause)) number
           (true_in trail (get_or w.clauses n clause) c.in-Some.other
-          (stands_other w n c.pair.result c.args.falsified c.in-Some.other c.pair.ensures.indexed c.nth-number.ensures.exists c.pair.ensures.is c.in-Some.ensures.watched clause) c.in-True.ensures.0)),
+          (stands_other w n c.pair.result c.args.falsified c.in-Some.other c.pair.ensures.indexed c.nth-number.ensures.exists c.pair.ensures.is c.in-Some.ensures.watched clause) (subst (Contains trail) c.lit.ensures c.in-True.ensures.0))),
     )
 
 -- the clause that is looked at is the one of the number
@@ -135,7 +136,7 @@ returns-in-False c =
     let number = at_place w c.args.falsified c.args.place n c.nth-number.ensures.is in
     let same = λ (clause : List Lit). clause_is w.clauses n c.literals.result.now clause c.nth-number.ensures.exists c.literals.ensures.are in
     let all : All (IsFalse trail) c.literals.result.now = λ k d inside. elim (lit-cases (get_or c.literals.result.now k d) c.in-Some.other) [
-      | inl is ↦ subst (IsFalse trail) (sym is) c.in-False.ensures.0
+      | inl is ↦ subst (IsFalse trail) (c.lit.ensures ∙ sym is) c.in-False.ensures.0
       | inr differs ↦ c.in_default-find_other.ensures.none k d inside differs
     ] in
     record {
@@ -149,9 +150,12 @@ set-requires c =
     let n = c.nth-number.result in
     let stands = stands_other w n c.pair.result c.args.falsified c.in-Some.other c.pair.ensures.indexed c.nth-number.ensures.exists c.pair.ensures.is c.in-Some.ensures.watched [] in
     let below = within_clause w n c.in-Some.other c.pair.ensures.indexed c.nth-number.ensures.exists stands in
+    let trail = c.args.assignment.now.trail in
+    let stands_as = subst (λ (l : Lit). StandsAs trail l c.value-truth.result) c.lit.ensures c.value-truth.ensures in
+    let same : c.lit-2.result.var ≡ c.in-Some.other.var = ap (λ (l : Lit). l.var) c.lit-2.ensures in
     record {
       inside = omega (arith, c.requires.width);
-      is_open = open_from c.args.assignment.now.trail c.in-Some.other c.value-truth.result c.value-truth.ensures c.in_default-truth.not-True c.in_default-truth-2.not-False;
+      is_open = subst (IsOpen trail) (sym c.lit-2.ensures) (open_from trail c.in-Some.other c.value-truth.result stands_as c.in_default-truth.not-True c.in_default-truth-2.not-False);
     }
 
 pub returns : goal.returns
@@ -164,16 +168,18 @@ returns c =
     let number = at_place w c.args.falsified c.args.place n c.nth-number.ensures.is in
     let same = λ (clause : List Lit). clause_is w.clauses n c.literals.result.now clause c.nth-number.ensures.exists c.literals.ensures.are in
     let stands = λ (clause : List Lit). stands_other w n c.pair.result c.args.falsified other c.pair.ensures.indexed c.nth-number.ensures.exists c.pair.ensures.is c.in-Some.ensures.watched clause in
+    let stands_as = subst (λ (l : Lit). StandsAs trail l c.value-truth.result) c.lit.ensures c.value-truth.ensures in
+    let added : c.set.new.self.trail ≡ trail ++ other ∷ [] = c.set.ensures.trail ∙ ap (λ (l : Lit). trail ++ l ∷ []) c.lit-2.ensures in
     let unit : IsUnit trail (get_or w.clauses n []) other = record {
       stands = stands [];
-      is_open = open_from trail other c.value-truth.result c.value-truth.ensures c.in_default-truth.not-True c.in_default-truth-2.not-False;
+      is_open = open_from trail other c.value-truth.result stands_as c.in_default-truth.not-True c.in_default-truth-2.not-False;
       alone = subst (All (λ k. k ≢ other → IsFalse trail k)) (same []) c.in_default-find_other.ensures.none;
     } in
     let one = implies_one w.clauses trail causes n (get_or w.clauses n []) other (slice_get-get_or w.clauses n [] c.nth-number.ensures.exists) unit in
     let implies : Implies w.clauses trail causes c.set.new.self.trail c.set.new.self.causes =
-    subst (λ (t : List Lit). Implies w.clauses trail causes t c.set.new.self.causes) (sym c.set.ensures.trail)
+    subst (λ (t : List Lit). Implies w.clauses trail causes t c.set.new.self.causes) (sym added)
     (subst (λ (cs : List Cause). Implies w.clauses trail causes (trail ++ other ∷ []) cs) (sym c.set.ensures.causes) one) in
-    let is : Contains c.set.new.self.trail other = subst (λ (t : List Lit). Contains t other) (sym c.set.ensures.trail) (Contains-push trail other) in
+    let is : Contains c.set.new.self.trail other = subst (λ (t : List Lit). Contains t other) (sym added) (Contains-push trail other) in
     record {
       seen = (
         refl,

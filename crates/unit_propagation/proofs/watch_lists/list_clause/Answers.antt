@@ -5,7 +5,8 @@ use Rattle.std.proofs.lemmas.List.{get_or-set_same, get_or-set_other, length-set
 use Rattle.cnf_core.specs.declared.formula.Lit.{Lit}
 use Rattle.cnf_core.proofs.Literals.{lit-cases}
 use Rattle.unit_propagation.specs.declared.pair.Pair.{Pair}
-use Rattle.unit_propagation.specs.Watching.{list_at, code_of, ListsClause}
+use Rattle.unit_propagation.specs.LitCodes.{code_of}
+use Rattle.unit_propagation.specs.Watching.{list_at, ListsClause}
 use Rattle.unit_propagation.proofs.PairLemmas.{watches_cases, watches_first, watches_second, watches_not, code_same}
 use Rattle.unit_propagation.proofs.watch_lists.list_clause.Goals as goal
 
@@ -43,16 +44,16 @@ both p c old differ first second l = elim (lit-cases p.first l) [
 
 pub append-requires-clause-inside : goal.append-requires-clause-inside
 append-requires-clause-inside c =
-    let there = (c.requires c.args.pair.first (watches_first c.args.pair c.args.pair.first (c.is_watched.ensures.0 c.if-is_watched.true) refl)).0 in
+    let there = (c.requires c.args.pair.now.first (watches_first c.args.pair.now c.args.pair.now.first (c.is_watched.ensures.0 c.if-is_watched.true) refl)).0 in
     let size = length-map c.args.lists.now.items (λ (v : Vec ℕ Global). v.items) in
     omega arith
 
 pub append-requires-clause-room : goal.append-requires-clause-room
-append-requires-clause-room c = (c.requires c.args.pair.first (watches_first c.args.pair c.args.pair.first (c.is_watched.ensures.0 c.if-is_watched.true) refl)).1
+append-requires-clause-room c = (c.requires c.args.pair.now.first (watches_first c.args.pair.now c.args.pair.now.first (c.is_watched.ensures.0 c.if-is_watched.true) refl)).1
 
 pub returns-then-is_watched-clause-listed : goal.returns-then-is_watched-clause-listed
 returns-then-is_watched-clause-listed c =
-    let p = c.args.pair in
+    let p = c.args.pair.now in
     let f = λ (v : Vec ℕ Global). v.items in
     let lists = map f c.args.lists.now.items in
     let differ = c.is_watched.ensures.0 c.if-is_watched.true in

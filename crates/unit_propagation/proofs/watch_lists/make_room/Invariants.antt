@@ -2,7 +2,8 @@
 use Rattle.std.proofs.Common.{◌≡◌, ◌≤◌, ◌<◌, ℕ, length, map, take}
 use Rattle.std.specs.Prelude.{vec_capacity, slice_index_or, Contains}
 use Rattle.cnf_core.specs.declared.formula.Lit.{Lit}
-use Rattle.unit_propagation.specs.Watching.{code_of, HasRoom}
+use Rattle.unit_propagation.specs.LitCodes.{code_of}
+use Rattle.unit_propagation.specs.Watching.{HasRoom}
 use Rattle.unit_propagation.proofs.watch_lists.make_room.Given as goal
 
 abbrev pub invariant-loop-l : goal.invariant-loop-l

@@ -40,13 +40,13 @@ invariant_of-self-2 c =
     let new_loose = c.note_loose.new.loose.items in
     let new : LooseClauses = record { numbers = c.note_loose.new.loose; settled = inside.loose.settled; reach = inside.loose.reach } in
     let causes = c.forget_ends.new.self.causes in
-    let one : p.first ≡ p.second → IsOne c.args.clause = λ same. subst IsOne c.as_slice.ensures (c.of-choice.ensures.one same) in
+    let one : p.first ≡ p.second → IsOne c.args.clause = λ same. subst IsOne (c.as_slice-2.ensures.value ∙ c.in_ok-clause.ensures ∙ c.as_slice.ensures) (c.of-choice.ensures.one same) in
     let number : c.clause_count-number.result ≡ length w.clauses = c.clause_count-number.ensures.is in
     let notes : NotesLoose p (length w.clauses) loose new_loose =
     subst (λ (ls : List ℕ). NotesLoose p (length w.clauses) ls new_loose) c.in_ok-reserve.ensures.items
     (subst (λ (n : ℕ). NotesLoose p n c.reserve.new.self.items new_loose) number c.note_loose.ensures) in
     let added : c.add.new.self.clauses ≡ w.clauses ++ c.args.clause ∷ [] =
-    c.in_ok-add.ensures.clauses ∙ ap (λ (k : List Lit). w.clauses ++ k ∷ []) c.as_slice-2.ensures in
+    c.in_ok-add.ensures.clauses ∙ ap (λ (k : List Lit). w.clauses ++ k ∷ []) (c.as_slice-3.ensures.value ∙ c.in_ok-clause.ensures ∙ c.as_slice.ensures) in
     let head : min inside.head c.of-choice.result.place ≡ c.min-self-inside.result = sym c.min-self-inside.ensures in
     let state = subst (λ (h : ℕ). IsState (w.clauses ++ c.args.clause ∷ []) (w.pairs ++ p ∷ []) inside.assignment.trail causes h new_loose) head
     (state_more_chosen w.clauses c.args.clause w.pairs p inside.assignment.trail inside.assignment.causes causes inside.head c.of-choice.result.place loose new_loose c.self.invariant.state one notes

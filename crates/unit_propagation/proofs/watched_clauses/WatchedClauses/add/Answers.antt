@@ -6,7 +6,8 @@ use Rattle.std.proofs.lemmas.List.Elements.{All-contains}
 use Rattle.cnf_core.specs.declared.formula.Lit.{Lit}
 use Rattle.unit_propagation.specs.declared.pair.Pair.{Pair}
 use Rattle.unit_propagation.specs.Units.{IsWithin}
-use Rattle.unit_propagation.specs.Watching.{Watched, IsIndexed, IsHeld, ListsRoom, ListsClause, code_of, watches}
+use Rattle.unit_propagation.specs.LitCodes.{code_of}
+use Rattle.unit_propagation.specs.Watching.{Watched, IsIndexed, IsHeld, ListsRoom, ListsClause, watches}
 use Rattle.unit_propagation.proofs.PairLemmas.{code_below}
 use Rattle.unit_propagation.proofs.IndexedLemmas.{watch_count, indexed_more, held_more}
 use Rattle.unit_propagation.proofs.watched_clauses.WatchedClauses.add.Goals as goal
@@ -29,9 +30,9 @@ list_clause-requires c =
     let width = ap (λ (w : Watched). w.width) c.self.view_is in
     let h = c.self.invariant in
     let within : IsWithin inside.width c.args.clause.now = subst (λ (n : ℕ). IsWithin n c.args.clause.now) (sym width) c.requires.within in
-    subst (λ (ls : List (List ℕ)). ListsRoom c.args.pair ls (map (λ (v : Vec ℕ Global). vec_capacity v) c.make_room.new.lists.items)) (sym c.in_ok-make_room.ensures.lists)
+    subst (λ (ls : List (List ℕ)). ListsRoom c.args.pair.now ls (map (λ (v : Vec ℕ Global). vec_capacity v) c.make_room.new.lists.items)) (sym c.in_ok-make_room.ensures.lists)
     (fits inside.width inside.clauses inside.pairs.items (map f inside.lists.items) (map (λ (v : Vec ℕ Global). vec_capacity v) c.make_room.new.lists.items)
-    inside.held.items c.make_room.new.held.items c.args.clause.now c.args.pair h.indexed h.held within c.requires.stands
+    inside.held.items c.make_room.new.held.items c.args.clause.now c.args.pair.now h.indexed h.held within c.requires.stands
     c.in_ok-make_room.ensures.grows c.in_ok-make_room.ensures.room)
 
 pub invariant_of-self-2 : goal.invariant_of-self-2
@@ -42,20 +43,20 @@ invariant_of-self-2 c =
     let width = ap (λ (w : Watched). w.width) c.self.view_is in
     let within : IsWithin inside.width c.args.clause.now = subst (λ (n : ℕ). IsWithin n c.args.clause.now) (sym width) c.requires.within in
     let clauses_is : c.push.new.self ≡ inside.clauses ++ c.args.clause.now ∷ [] = c.in_ok-push.ensures.pushed in
-    let pairs_is : c.push_reserved.new.self.items ≡ inside.pairs.items ++ c.args.pair ∷ [] =
-    c.push_reserved.ensures.items ∙ ap (λ (ps : List Pair). ps ++ c.args.pair ∷ []) c.in_ok-reserve.ensures.items in
+    let pairs_is : c.push_reserved.new.self.items ≡ inside.pairs.items ++ c.args.pair.now ∷ [] =
+    c.push_reserved.ensures.items ∙ ap (λ (ps : List Pair). ps ++ c.args.pair.now ∷ []) c.in_ok-reserve.ensures.items in
     let number : c.in-Some.number ≡ length inside.clauses = c.in-Some.ensures.is ∙ c.len.ensures in
-    let listed : ListsClause c.args.pair (length inside.clauses) (map f inside.lists.items) (map f c.list_clause.new.lists.items) =
-    subst (λ (n : ℕ). ListsClause c.args.pair n (map f inside.lists.items) (map f c.list_clause.new.lists.items)) number
-    (subst (λ (ls : List (List ℕ)). ListsClause c.args.pair c.in-Some.number ls (map f c.list_clause.new.lists.items)) c.in_ok-make_room.ensures.lists c.list_clause.ensures.listed) in
+    let listed : ListsClause c.args.pair.now (length inside.clauses) (map f inside.lists.items) (map f c.list_clause.new.lists.items) =
+    subst (λ (n : ℕ). ListsClause c.args.pair.now n (map f inside.lists.items) (map f c.list_clause.new.lists.items)) number
+    (subst (λ (ls : List (List ℕ)). ListsClause c.args.pair.now c.in-Some.number ls (map f c.list_clause.new.lists.items)) c.in_ok-make_room.ensures.lists c.list_clause.ensures.listed) in
     let before = length-map inside.lists.items f in
     let mid = length-map c.make_room.new.lists.items f in
     let after = length-map c.list_clause.new.lists.items f in
     let same = ap length c.in_ok-make_room.ensures.lists in
     record {
       indexed = subst (λ (ps : List Pair). IsIndexed inside.width c.push.new.self ps (map f c.list_clause.new.lists.items)) (sym pairs_is)
-          (subst (λ (cs : List (List Lit)). IsIndexed inside.width cs (inside.pairs.items ++ c.args.pair ∷ []) (map f c.list_clause.new.lists.items)) (sym clauses_is)
-          (indexed_more inside.width inside.clauses inside.pairs.items (map f inside.lists.items) (map f c.list_clause.new.lists.items) c.args.clause.now c.args.pair
+          (subst (λ (cs : List (List Lit)). IsIndexed inside.width cs (inside.pairs.items ++ c.args.pair.now ∷ []) (map f c.list_clause.new.lists.items)) (sym clauses_is)
+          (indexed_more inside.width inside.clauses inside.pairs.items (map f inside.lists.items) (map f c.list_clause.new.lists.items) c.args.clause.now c.args.pair.now
           h.indexed within c.requires.stands (omega (arith, c.list_clause.ensures.size)) listed));
       held_size = omega (arith, h.held_size, c.in_ok-make_room.ensures.size);
       held = subst (λ (cs : List (List Lit)). IsHeld cs c.make_room.new.held.items) (sym clauses_is)

@@ -5,7 +5,8 @@ use Rattle.std.proofs.Math.ListN.{set}
 use Rattle.std.proofs.lemmas.List.{length-map, length-set, map-set, get_or-set_other, get_or_default}
 use Rattle.std.proofs.lemmas.Option.{get_or_from_slice_get, slice_get_within}
 use Rattle.cnf_core.specs.declared.formula.Lit.{Lit}
-use Rattle.unit_propagation.specs.Watching.{Watched, IsIndexed, IsHeld, MovesWatch, code_of, list_at, pair_of}
+use Rattle.unit_propagation.specs.LitCodes.{code_of}
+use Rattle.unit_propagation.specs.Watching.{Watched, IsIndexed, IsHeld, MovesWatch, list_at, pair_of}
 use Rattle.unit_propagation.proofs.PairLemmas.{code_below, code_same, other_only, watches_not}
 use Rattle.unit_propagation.proofs.ListLemmas.{map_read, set_keeps}
 use Rattle.unit_propagation.proofs.IndexedLemmas.{watch_count_less, indexed_moved, lists_moved, AreMoved}
