@@ -17,7 +17,7 @@ use Rattle.refutation_checker.specs.Derivation.{IsInput}
 use Rattle.refutation_checker.specs.Acceptance.{LeavesOpen, IsLeastConflict}
 use Rattle.refutation_checker.specs.Deciding.{IsSetUnder, HasSet}
 use Rattle.refutation_checker.specs.Cubes.{IsRoot, IsSettled, IsReached, IsLeast}
-use Rattle.refutation_checker.proofs.DecidingLemmas.{full_continues}
+use Rattle.unit_propagation.proofs.ExtendsLaws.{full_continues}
 
 pub inputs_within : (inputs width : ℕ) (cube : List Lit) → inputs < width → All (λ l. IsInput inputs l.var) cube → IsWithin width cube
 inputs_within inputs width cube below are = All-weaker (λ l. IsInput inputs l.var) (λ l. l.var < width) (λ l is. omega arith) cube are

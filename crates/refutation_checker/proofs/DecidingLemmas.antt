@@ -1,86 +1,14 @@
--- Propagators that extend others, and what undoing gives back.
-use Rattle.std.proofs.Common.{◌≡◌, ℕ, List, Option, None, refl, ◌⊎◌, inl, inr, [], ◌∷◌, ◌++◌, length, take, ap, sym, ◌∙◌, subst, append_assoc}
+-- Literals that are not open, and what came of a decision.
+use Rattle.std.proofs.Common.{◌≡◌, List, refl, ◌⊎◌, inl, inr, [], ◌∷◌, ◌++◌, subst}
 use Rattle.std.specs.Prelude.{◌↔◌}
-use Rattle.std.proofs.Math.Seq.{take-append_seam}
-use Rattle.std.proofs.lemmas.List.{append-nil}
 use Rattle.cnf_core.specs.declared.formula.Lit.{Lit}
-use Rattle.cnf_core.specs.Literal.{negation}
 use Rattle.cnf_core.specs.Propagation.{Conflicts}
-use Rattle.unit_propagation.specs.Units.{IsOpen}
-use Rattle.unit_propagation.specs.Propagated.{AreAllSet}
-use Rattle.unit_propagation.specs.Propagation.{Propagation, Continues, FollowsAs, IsFull, decisions, with_decision, undone}
-use Rattle.refutation_checker.specs.Acceptance.{LeavesOpen}
+use Rattle.unit_propagation.specs.Propagation.{Propagation, Extends, FollowsAs, decisions}
 use Rattle.unit_propagation.specs.declared.assignment.Truth.{Truth}
 use Rattle.unit_propagation.specs.declared.assignment.Truth.TheVariants.{True, False}
-use Rattle.refutation_checker.specs.Deciding.{Decides, Extends, IsSetUnder}
+use Rattle.refutation_checker.specs.Deciding.{Decides, IsSetUnder}
 use Rattle.refutation_checker.specs.declared.decide.Decision.{Decision}
 use Rattle.refutation_checker.specs.declared.decide.Decision.TheVariants.{Refused, Conflict, Full}
-
-pub extends_itself : (p : Propagation) → Extends p p
-extends_itself p = record {
-  width = refl;
-  clauses = refl;
-  more = [];
-  trail = sym (append-nil p.trail);
-  more_reasons = [];
-  reasons = sym (append-nil p.reasons);
-}
-
-pub extends_then : (a b c : Propagation) → Extends a b → Extends b c → Extends a c
-extends_then a b c first then = record {
-  width = then.width ∙ first.width;
-  clauses = then.clauses ∙ first.clauses;
-  more = first.more ++ then.more;
-  trail = then.trail ∙ ap (λ (t : List Lit). t ++ then.more) first.trail ∙ append_assoc a.trail first.more then.more;
-  more_reasons = first.more_reasons ++ then.more_reasons;
-  reasons = then.reasons ∙ ap (λ (t : List (Option ℕ)). t ++ then.more_reasons) first.reasons ∙ append_assoc a.reasons first.more_reasons then.more_reasons;
-}
-
-pub extends_continues : (a b : Propagation) → Continues a b → Extends a b
-extends_continues a b h = record {
-  width = h.width;
-  clauses = h.clauses;
-  more = h.more;
-  trail = h.trail;
-  more_reasons = h.more_reasons;
-  reasons = h.reasons;
-}
-
-pub extends_decision : (a b : Propagation) (l : Lit) → b ≡ with_decision a l → Extends a b
-extends_decision a b l e = subst (Extends a) (sym e) (record {
-  width = refl;
-  clauses = refl;
-  more = l ∷ [];
-  trail = refl;
-  more_reasons = None ∷ [];
-  reasons = refl;
-})
-
-abbrev over : ℕ → List (List Lit) → List Lit → List (Option ℕ) → Propagation
-over width clauses trail reasons = record { width = width; clauses = clauses; trail = trail; reasons = reasons }
-
--- what was set since is taken back
-pub extends_undone : (a b c : Propagation) (n : ℕ) → Extends a b → n ≡ length a.trail → n ≡ length a.reasons → c ≡ undone b n → c ≡ a
-extends_undone a b c n h trail_is reasons_is undone_is =
-    undone_is
-    ∙ ap (λ (w : ℕ). over w b.clauses (take n b.trail) (take n b.reasons)) h.width
-    ∙ ap (λ (cs : List (List Lit)). over a.width cs (take n b.trail) (take n b.reasons)) h.clauses
-    ∙ ap (λ (t : List Lit). over a.width a.clauses t (take n b.reasons)) trail
-    ∙ ap (λ (rs : List (Option ℕ)). over a.width a.clauses a.trail rs) reasons where
-      trail : take n b.trail ≡ a.trail
-      trail = ap (take n) h.trail ∙ ap (λ (i : ℕ). take i (a.trail ++ h.more)) trail_is ∙ take-append_seam a.trail h.more
-
-      reasons : take n b.reasons ≡ a.reasons
-      reasons = ap (take n) h.reasons ∙ ap (λ (i : ℕ). take i (a.reasons ++ h.more_reasons)) reasons_is ∙ take-append_seam a.reasons h.more_reasons
-
--- propagation has set what follows
-pub full_continues : (a b : Propagation) → Continues a b → IsFull a b → IsFull b b
-full_continues a b h full =
-    subst (λ (ds : List Lit). AreAllSet b.clauses ds b.trail) (sym h.decides) (subst (λ (cs : List (List Lit)). AreAllSet cs (decisions a) b.trail) (sym h.clauses) full)
-
--- an open literal is left open
-pub leaves_open : (p : Propagation) (l : Lit) → IsFull p p → IsOpen p.trail l → LeavesOpen p.clauses (decisions p) l
-leaves_open p l full is_open = ((λ sets. is_open.0 ((full l).1 sets)), (λ sets. is_open.1 ((full (negation l)).1 sets)))
 
 -- a literal that is not open
 pub is_set : (p : Propagation) (l : Lit) (t : Truth) → FollowsAs p l t → (t ≡ True) ⊎ (t ≡ False) → IsSetUnder p.clauses (decisions p) l

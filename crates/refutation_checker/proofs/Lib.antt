@@ -2,6 +2,7 @@ pub mod HintsLemmas
 pub mod CubesLemmas
 pub mod DecidingLemmas
 pub mod AcceptanceLaws
+pub mod OpenLaws
 pub mod RenamingLemmas
 pub mod VariablesLemmas
 pub mod LinesLemmas

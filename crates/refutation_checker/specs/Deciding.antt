@@ -1,20 +1,11 @@
 -- Literals that are decided on top of others, and what came of it.
-use Rattle.std.specs.Prelude.{◌≡◌, ℕ, ◌⊎◌, ◌++◌, ◌∷◌, [], List, Option, Some, slice_get, take}
+use Rattle.std.specs.Prelude.{◌≡◌, ℕ, ◌⊎◌, ◌++◌, ◌∷◌, [], List, Some, slice_get, take}
 use Rattle.cnf_core.specs.declared.formula.Lit.{Lit}
 use Rattle.cnf_core.specs.Propagation.{Sets, Conflicts}
 use Rattle.unit_propagation.specs.Propagation.{Propagation, decisions, IsFull, IsRefuted}
 use Rattle.refutation_checker.specs.Acceptance.{LeavesOpen}
 use Rattle.refutation_checker.specs.declared.decide.Decision.{Decision}
 use Rattle.refutation_checker.specs.declared.decide.Decision.TheVariants.{Refused, Conflict, Full}
-
--- the same clauses, and more literals set
-pub record Extends (old new : Propagation) : Type 0 where
-  pub width : new.width ≡ old.width
-  pub clauses : new.clauses ≡ old.clauses
-  pub more : List Lit
-  pub trail : new.trail ≡ old.trail ++ more
-  pub more_reasons : List (Option ℕ)
-  pub reasons : new.reasons ≡ old.reasons ++ more_reasons
 
 -- the decided literals set the literal, or rule it out
 abbrev pub IsSetUnder : List (List Lit) → List Lit → Lit → Type 0

@@ -13,7 +13,7 @@ pub fn copy_hints(alloc: Global, hints: &Hints) -> Result<Hints, AllocError>
     Items::from_slice(alloc, hints.as_slice())
 }
 
-/// The clause of the negations of the cube's literals.
+/// The clause of the negations of the cube's literals, as which it counts.
 pub fn negations(alloc: Global, cube: &Cube) -> Result<Clause, AllocError>
     ensures { IfOk result (λ clause. clause ≡ map negation cube.now) }
 {

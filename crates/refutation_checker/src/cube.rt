@@ -5,7 +5,7 @@ ghost use Rattle.std.specs.Prelude.{◌≡◌, ◌<◌, ◌+◌, ◌↔◌, IsTr
 ghost use Rattle.std.specs.Bool.{OnTrue, OnFalse};
 ghost use Rattle.unit_propagation.specs.Units.{IsWithin};
 ghost use Rattle.refutation_checker.specs.Acceptance.{IsLeastConflict};
-ghost use Rattle.refutation_checker.specs.Deciding.{Extends};
+ghost use Rattle.unit_propagation.specs.Propagation.{Extends};
 ghost use Rattle.refutation_checker.specs.Cubes.{IsRoot, IsReached, IsLeast};
 ghost use Rattle.refutation_checker.specs.Derivation.{IsInput};
 
@@ -29,10 +29,11 @@ pub fn is_least_conflict(root: &mut Propagator, inputs: u32, cube: &[Lit]) -> bo
     answer
 }
 
-fn are_inputs(cube: &[Lit], inputs: u32) -> bool
-    ensures { IsTrue result ↔ All (λ l. IsInput inputs l.var) cube.now }
+/// Whether the variable of each literal is an input.
+pub fn are_inputs(lits: &[Lit], inputs: u32) -> bool
+    ensures { IsTrue result ↔ All (λ l. IsInput inputs l.var) lits.now }
 {
-    cube.iter().all(|l| 0 < l.var && l.var <= inputs)
+    lits.iter().all(|l| 0 < l.var && l.var <= inputs)
 }
 
 fn is_least(root: &mut Propagator, cube: &[Lit]) -> bool

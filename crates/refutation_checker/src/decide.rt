@@ -4,8 +4,8 @@ ghost use Rattle.std.specs.Prelude.{◌≡◌, ◌<◌, ◌++◌, ◌⊎◌, IsT
 ghost use Rattle.std.specs.Bool.{OnTrue, OnFalse};
 ghost use Rattle.cnf_core.specs.Propagation.{Conflicts};
 ghost use Rattle.unit_propagation.specs.Units.{IsWithin};
-ghost use Rattle.unit_propagation.specs.Propagation.{decisions, IsFull};
-ghost use Rattle.refutation_checker.specs.Deciding.{Decides, Extends, HasSet};
+ghost use Rattle.unit_propagation.specs.Propagation.{decisions, IsFull, Extends};
+ghost use Rattle.refutation_checker.specs.Deciding.{Decides, HasSet};
 
 use cnf_core::Lit;
 use unit_propagation::{Propagator, Truth};

@@ -1,5 +1,5 @@
 //! What holds of every accepted derivation, each law the contract of a function that does nothing. A proof above may cite
-//! the lemmas of `AcceptedCubesLaws`.
+//! the lemmas of `AcceptedCubesLaws` and `OpenLaws`.
 ghost use Rattle.refutation_checker.specs.Derivation.{Derivation};
 ghost use Rattle.refutation_checker.specs.Acceptance.{IsAccepted};
 ghost use Rattle.refutation_checker.specs.AcceptedCubes.{NoCubeIsPart, AreDistinct, NoneIsEmpty, AreFew};

@@ -13,3 +13,5 @@ mod root;
 mod variables;
 
 pub use checker::{CheckFault, Checker};
+pub use copies::negations;
+pub use cube::are_inputs;

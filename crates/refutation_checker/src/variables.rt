@@ -12,6 +12,7 @@ use cnf_core::{Clause, Lit};
 use sqlite_items::Items;
 use std::alloc::{AllocError, Global};
 use std::marker::Model;
+use unit_propagation::LitCode;
 
 /// Variable 0 and the inputs keep their numbers, and those past the inputs that occur follow in order.
 #[derive(Drop)]
@@ -124,13 +125,13 @@ impl Variables {
     }
 
     /// The clause of internal numbers in the variables' own.
-    pub fn external_clause(&self, alloc: Global, clause: &[Lit]) -> Result<Clause, AllocError>
+    pub fn external_clause(&self, alloc: Global, clause: &[LitCode]) -> Result<Clause, AllocError>
         requires { IsWithin (width self.now) clause.now }
         ensures { IfOk result (λ lits. lits ≡ external_clause self.now clause.now) }
     {
         let mut lits = Vec::with_capacity(alloc, clause.len())?;
         for l in clause {
-            lits.push(self.external(*l))?;
+            lits.push(self.external(l.lit()))?;
         }
         Ok(Items::from_vec(lits))
     }

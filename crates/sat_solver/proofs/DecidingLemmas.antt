@@ -11,13 +11,14 @@ use Rattle.unit_propagation.specs.Units.{IsOpen}
 use Rattle.unit_propagation.specs.Assigned.{StandsAs}
 use Rattle.unit_propagation.specs.declared.assignment.Truth.{Truth}
 use Rattle.unit_propagation.specs.declared.assignment.Truth.TheVariants.{True, False}
-use Rattle.unit_propagation.specs.Propagation.{Propagation, Continues, IsFull, decisions, with_decision}
+use Rattle.unit_propagation.specs.Propagation.{Propagation, Continues, IsFull, decisions, with_decision, Extends}
 use Rattle.unit_propagation.proofs.ApartLaws.{apart_open}
 use Rattle.unit_propagation.proofs.PropagationLaws.{sets_decided}
 use Rattle.refutation_checker.specs.Derivation.{IsInput}
 use Rattle.refutation_checker.specs.Acceptance.{LeavesOpen}
-use Rattle.sat_solver.specs.Deciding.{OpensEach, AreOpenInputs, IsReached, EndsInConflict, literal, IsSetOneWay, AreSetTo, Extends, Comes}
-use Rattle.sat_solver.proofs.ExtendsLemmas.{full_continues, leaves_open, extends_contains}
+use Rattle.sat_solver.specs.Deciding.{OpensEach, AreOpenInputs, IsReached, EndsInConflict, literal, IsSetOneWay, AreSetTo, Comes}
+use Rattle.unit_propagation.proofs.ExtendsLaws.{full_continues, extends_contains}
+use Rattle.refutation_checker.proofs.OpenLaws.{leaves_open}
 
 -- what the decided literals leave open is not among them
 pub open_among : (clauses : List (List Lit)) (decided : List Lit) (l : Lit) → LeavesOpen clauses decided l → IsOpen decided l

@@ -1,5 +1,4 @@
 pub mod ListLemmas
-pub mod ExtendsLemmas
 pub mod DecidingLemmas
 pub mod TrialLemmas
 pub mod ReducingLemmas

@@ -9,12 +9,12 @@ use Rattle.cnf_core.specs.declared.formula.Lit.{Lit}
 use Rattle.cnf_core.specs.Literal.{negation, IsApart}
 use Rattle.cnf_core.specs.Propagation.{Conflicts}
 use Rattle.unit_propagation.specs.Units.{IsOpen, IsConsistent}
-use Rattle.unit_propagation.specs.Propagation.{Propagation, IsFull, decisions}
+use Rattle.unit_propagation.specs.Propagation.{Propagation, IsFull, decisions, Extends}
 use Rattle.unit_propagation.proofs.ApartLaws.{apart_open}
 use Rattle.unit_propagation.proofs.PropagationLaws.{sets_more, conflicts_more}
 use Rattle.refutation_checker.specs.Derivation.{IsInput}
 use Rattle.refutation_checker.specs.Acceptance.{LeavesOpen, IsLeastConflict}
-use Rattle.sat_solver.specs.Deciding.{Extends, IsReached, EndsInConflict}
+use Rattle.sat_solver.specs.Deciding.{IsReached, EndsInConflict}
 use Rattle.sat_solver.specs.Reducing.{KeepsConflict, IsReduced}
 use Rattle.sat_solver.proofs.ListLemmas.{take_within, take_longer, drop_within, drop_longer, append_within, remove_last, consistent_apart}
 use Rattle.sat_solver.proofs.DecidingLemmas.{open_among}

@@ -1,20 +1,11 @@
 -- Literals that are decided one after the other, each with what follows from it.
-use Rattle.std.specs.Prelude.{◌≡◌, ◌-◌, ◌<◌, ◌⊎◌, ◌++◌, ◌∷◌, ℕ, Bool, true, false, List, [], Option, Some, All, Contains, length, slice_get, slice_index_or, take}
+use Rattle.std.specs.Prelude.{◌≡◌, ◌-◌, ◌<◌, ◌⊎◌, ◌++◌, ◌∷◌, ℕ, Bool, true, false, List, [], Some, All, Contains, length, slice_get, slice_index_or, take}
 use Rattle.cnf_core.specs.declared.formula.Lit.{Lit}
 use Rattle.cnf_core.specs.Literal.{IsApart}
 use Rattle.cnf_core.specs.Propagation.{Conflicts}
 use Rattle.unit_propagation.specs.Propagation.{Propagation, decisions, IsFull}
 use Rattle.refutation_checker.specs.Derivation.{IsInput}
 use Rattle.refutation_checker.specs.Acceptance.{LeavesOpen}
-
--- the same clauses, and more literals set
-pub record Extends (old new : Propagation) : Type 0 where
-  pub width : new.width ≡ old.width
-  pub clauses : new.clauses ≡ old.clauses
-  pub more : List Lit
-  pub trail : new.trail ≡ old.trail ++ more
-  pub more_reasons : List (Option ℕ)
-  pub reasons : new.reasons ≡ old.reasons ++ more_reasons
 
 -- those before each literal leave it open
 abbrev pub OpensEach : List (List Lit) → List Lit → Type 0

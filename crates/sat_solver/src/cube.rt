@@ -2,9 +2,9 @@
 
 ghost use Rattle.std.specs.Prelude.{◌≡◌, ◌<◌, ◌+◌, ◌∷◌, ◌++◌, [], IfOk, OnOk, length};
 ghost use Rattle.cnf_core.specs.Propagation.{Conflicts};
-ghost use Rattle.unit_propagation.specs.Propagation.{decisions, IsFull};
+ghost use Rattle.unit_propagation.specs.Propagation.{decisions, IsFull, Extends};
 ghost use Rattle.refutation_checker.specs.Acceptance.{IsLeastConflict, LeavesOpen};
-ghost use Rattle.sat_solver.specs.Deciding.{Extends, IsReached, EndsInConflict};
+ghost use Rattle.sat_solver.specs.Deciding.{IsReached, EndsInConflict};
 ghost use Rattle.sat_solver.specs.Reducing.{IsReduced};
 
 use crate::trial::conflicts_with;

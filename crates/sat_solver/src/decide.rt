@@ -2,7 +2,8 @@
 
 ghost use Rattle.std.specs.Prelude.{◌≡◌, ◌<◌, ◌≤◌, ◌∷◌, [], false, All, IfOk, OnOk, IsTrue};
 ghost use Rattle.refutation_checker.specs.Derivation.{IsInput};
-ghost use Rattle.sat_solver.specs.Deciding.{Extends, IsReached, Comes, AreSetTo, IsSetOneWay};
+ghost use Rattle.unit_propagation.specs.Propagation.{Extends};
+ghost use Rattle.sat_solver.specs.Deciding.{IsReached, Comes, AreSetTo, IsSetOneWay};
 
 use cnf_core::Lit;
 use std::alloc::AllocError;

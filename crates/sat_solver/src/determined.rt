@@ -4,7 +4,8 @@ ghost use Rattle.std.specs.Prelude.{◌↔◌, IsTrue, All};
 ghost use Rattle.refutation_checker.specs.Derivation.{IsInput};
 ghost use Rattle.cnf_core.specs.Determined.{IsDetermined, AreNumbered};
 
-use cnf_core::{Clauses, Lit};
+use cnf_core::Clauses;
+use refutation_checker::are_inputs;
 
 /// Whether each variable of the clauses is an input, which is enough for `solve`.
 pub fn all_are_inputs(clauses: &Clauses, inputs: u32) -> bool
@@ -18,10 +19,4 @@ pub fn all_are_inputs(clauses: &Clauses, inputs: u32) -> bool
         }
     }
     true
-}
-
-fn are_inputs(lits: &[Lit], inputs: u32) -> bool
-    ensures { IsTrue result ↔ All (λ l. IsInput inputs l.var) lits.now }
-{
-    lits.iter().all(|l| 0 < l.var && l.var <= inputs)
 }

@@ -4,7 +4,6 @@ ghost use Rattle.std.specs.Prelude.{◌≡◌, ◌<◌, ◌≤◌, ◌+◌, ◌^
 ghost use Rattle.unit_propagation.specs.Units.{IsWithin};
 ghost use Rattle.sat_solver.specs.Deciding.{GivesTrail, SaysVariable};
 
-use crate::copies::copy;
 use cnf_core::{Clause, Lit, Valuation};
 use sqlite_items::Items;
 use std::alloc::{AllocError, Global};
@@ -34,7 +33,7 @@ fn add_all(alloc: Global, clauses: &[Clause], highest: u32) -> Result<Propagator
     let mut solver = Propagator::new(alloc);
     solver.grow(highest as usize + 1)?;
     for clause in clauses {
-        solver.add_clause(copy(alloc, clause)?)?;
+        solver.add_clause(Items::from_slice(alloc, clause.as_slice())?)?;
     }
     Ok(solver)
 }

@@ -4,7 +4,6 @@
 #![tactic(auto)]
 
 mod answer;
-mod copies;
 mod cube;
 mod decide;
 mod determined;

@@ -11,13 +11,12 @@ ghost use Rattle.sat_solver.specs.Deciding.{IsReached};
 ghost use Rattle.cnf_core.specs.Determined.{IsDetermined, AreNumbered};
 ghost use Rattle.sat_solver.specs.Solving.{IsReady, ComesTo, AddsCube, AddsEmptyStep};
 
-use crate::copies::negations;
 use crate::cube::least_cube;
 use crate::decide::decide_inputs;
 use crate::formula::valuation_of;
 use crate::refutation::empty_step;
 use cnf_core::{Cube, Lit, Valuation};
-use refutation_checker::{CheckFault, Checker};
+use refutation_checker::{CheckFault, Checker, negations};
 use std::alloc::{AllocError, Global};
 use unit_propagation::Propagator;
 

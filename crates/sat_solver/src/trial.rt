@@ -4,8 +4,7 @@ ghost use Rattle.std.specs.Prelude.{◌≡◌, ◌<◌, ◌++◌, ◌∷◌, ◌
 ghost use Rattle.std.specs.Bool.{OnTrue, OnFalse};
 ghost use Rattle.cnf_core.specs.Propagation.{Conflicts};
 ghost use Rattle.unit_propagation.specs.Units.{IsWithin, IsConsistent};
-ghost use Rattle.unit_propagation.specs.Propagation.{decisions, IsRefuted};
-ghost use Rattle.sat_solver.specs.Deciding.{Extends};
+ghost use Rattle.unit_propagation.specs.Propagation.{decisions, IsRefuted, Extends};
 ghost use Rattle.sat_solver.specs.Reducing.{StandsFor};
 
 use cnf_core::Lit;

@@ -4,6 +4,7 @@
 use cnf_core::{Clauses, Lit};
 use sqlite_items::Items;
 use std::alloc::{AllocError, Global};
+use unit_propagation::LitCode;
 
 /// More than any variable of a test.
 pub const VARIABLES: u32 = 32;
@@ -56,6 +57,14 @@ impl Set {
         let mut set = Set::EMPTY;
         for l in lits {
             set = set.with(*l);
+        }
+        set
+    }
+
+    pub fn of_codes(codes: &[LitCode]) -> Set {
+        let mut set = Set::EMPTY;
+        for code in codes {
+            set = set.with(code.lit());
         }
         set
     }

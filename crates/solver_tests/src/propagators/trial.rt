@@ -90,7 +90,7 @@ impl Trial {
             return false;
         }
         for number in 0..count {
-            if Set::of_literals(self.propagator.literals(number)) != self.clauses[number] {
+            if Set::of_codes(self.propagator.literals(number)) != self.clauses[number] {
                 return false;
             }
         }

@@ -4,10 +4,11 @@ use Rattle.std.proofs.lemmas.List.{take_all, length-drop, get_or_default}
 use Rattle.cnf_core.specs.declared.formula.Lit.{Lit}
 use Rattle.cnf_core.specs.Propagation.{Conflicts}
 use Rattle.cnf_core.proofs.Literals.{no_lit}
-use Rattle.unit_propagation.specs.Propagation.{Propagation, IsFull, decisions}
-use Rattle.refutation_checker.specs.Deciding.{Decides, Extends}
+use Rattle.unit_propagation.specs.Propagation.{Propagation, IsFull, decisions, Extends}
+use Rattle.refutation_checker.specs.Deciding.{Decides}
 use Rattle.refutation_checker.specs.declared.decide.Decision.TheVariants.{Full}
-use Rattle.refutation_checker.proofs.DecidingLemmas.{extends_itself, extends_undone, not_full}
+use Rattle.unit_propagation.proofs.ExtendsLaws.{extends_itself, extends_undone}
+use Rattle.refutation_checker.proofs.DecidingLemmas.{not_full}
 use Rattle.refutation_checker.proofs.CubesLemmas.{without_refuses, without, next_refuses, reached_next}
 use Rattle.refutation_checker.proofs.cube.goes_on.Goals as goal
 

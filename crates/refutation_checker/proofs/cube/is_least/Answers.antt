@@ -3,7 +3,8 @@ use Rattle.std.proofs.Common.{◌≡◌, ◌<◌, ◌∷◌, [], length-append, 
 use Rattle.std.proofs.Math.Seq.{get_or-append_seam}
 use Rattle.cnf_core.specs.declared.formula.Lit.{Lit}
 use Rattle.refutation_checker.specs.Cubes.{IsLeast}
-use Rattle.refutation_checker.proofs.DecidingLemmas.{extends_itself, extends_then, not_conflict}
+use Rattle.unit_propagation.proofs.ExtendsLaws.{extends_itself, extends_then}
+use Rattle.refutation_checker.proofs.DecidingLemmas.{not_conflict}
 use Rattle.refutation_checker.proofs.CubesLemmas.{reached_none, least_ends, last_refuses}
 use Rattle.refutation_checker.proofs.cube.is_least.Goals as goal
 

@@ -1,5 +1,5 @@
 -- The literals before the place are decided.
-use Rattle.refutation_checker.specs.Deciding.{Extends}
+use Rattle.unit_propagation.specs.Propagation.{Extends}
 use Rattle.refutation_checker.specs.Cubes.{IsReached}
 use Rattle.refutation_checker.proofs.cube.is_least.Given as goal
 

@@ -6,7 +6,8 @@ use Rattle.cnf_core.specs.declared.formula.Lit.{Lit}
 use Rattle.cnf_core.proofs.Literals.{no_lit}
 use Rattle.unit_propagation.specs.Propagation.{decisions}
 use Rattle.refutation_checker.specs.Deciding.{IsSetUnder}
-use Rattle.refutation_checker.proofs.DecidingLemmas.{extends_itself, is_set}
+use Rattle.unit_propagation.proofs.ExtendsLaws.{extends_itself}
+use Rattle.refutation_checker.proofs.DecidingLemmas.{is_set}
 use Rattle.refutation_checker.proofs.decide.decide_all.Goals as goal
 
 pub loop-l-init : goal.loop-l-init

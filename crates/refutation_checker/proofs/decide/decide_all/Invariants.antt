@@ -1,7 +1,6 @@
 -- The literals before the index are decided.
 use Rattle.std.proofs.Common.{◌≡◌, ◌++◌, take}
-use Rattle.unit_propagation.specs.Propagation.{decisions}
-use Rattle.refutation_checker.specs.Deciding.{Extends}
+use Rattle.unit_propagation.specs.Propagation.{decisions, Extends}
 use Rattle.refutation_checker.proofs.decide.decide_all.Given as goal
 
 abbrev pub invariant-loop-l : goal.invariant-loop-l

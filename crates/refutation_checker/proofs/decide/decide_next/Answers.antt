@@ -3,7 +3,9 @@ use Rattle.std.proofs.Common.{◌≡◌, List, sym, ◌∙◌, ap, subst}
 use Rattle.cnf_core.specs.declared.formula.Lit.{Lit}
 use Rattle.cnf_core.specs.Propagation.{Conflicts}
 use Rattle.unit_propagation.specs.Propagation.{Propagation, decisions}
-use Rattle.refutation_checker.proofs.DecidingLemmas.{extends_itself, full_continues, leaves_open, is_set}
+use Rattle.unit_propagation.proofs.ExtendsLaws.{extends_itself, full_continues}
+use Rattle.refutation_checker.proofs.OpenLaws.{leaves_open}
+use Rattle.refutation_checker.proofs.DecidingLemmas.{is_set}
 use Rattle.refutation_checker.proofs.decide.decide_next.Goals as goal
 
 pub returns-in-True : goal.returns-in-True

@@ -1,5 +1,6 @@
 -- The literal is open, and no conflict follows from it.
-use Rattle.sat_solver.proofs.ExtendsLemmas.{is_open, extends_both, full_continues}
+use Rattle.unit_propagation.proofs.ExtendsLaws.{extends_both, full_continues}
+use Rattle.refutation_checker.proofs.OpenLaws.{is_open}
 use Rattle.sat_solver.proofs.DecidingLemmas.{decided_conflict}
 use Rattle.sat_solver.proofs.cube.keep.Goals as goal
 

@@ -8,10 +8,9 @@ use Rattle.cnf_core.specs.declared.formula.Lit.{Lit}
 use Rattle.cnf_core.specs.Propagation.{Conflicts}
 use Rattle.cnf_core.proofs.Literals.{no_lit}
 use Rattle.refutation_checker.specs.Acceptance.{LeavesOpen}
-use Rattle.unit_propagation.specs.Propagation.{Propagation, IsFull, decisions}
-use Rattle.sat_solver.specs.Deciding.{Extends}
+use Rattle.unit_propagation.specs.Propagation.{Propagation, IsFull, decisions, Extends}
 use Rattle.sat_solver.specs.Reducing.{IsReduced}
-use Rattle.sat_solver.proofs.ExtendsLemmas.{extends_itself}
+use Rattle.unit_propagation.proofs.ExtendsLaws.{extends_itself}
 use Rattle.sat_solver.proofs.ReducingLemmas.{reduced_dropped, reduced_kept, reduced_leaves, reduced_free, reduced_consistent, inputs_within}
 use Rattle.sat_solver.proofs.cube.keep_if_needed.Goals as goal
 

@@ -4,7 +4,7 @@ use Rattle.cnf_core.specs.declared.formula.Lit.{Lit}
 use Rattle.refutation_checker.specs.Acceptance.{IsLeastConflict}
 use Rattle.sat_solver.specs.Deciding.{EndsInConflict}
 use Rattle.sat_solver.specs.Reducing.{IsReduced}
-use Rattle.sat_solver.proofs.ExtendsLemmas.{extends_itself, extends_then}
+use Rattle.unit_propagation.proofs.ExtendsLaws.{extends_itself, extends_then}
 use Rattle.sat_solver.proofs.DecidingLemmas.{width_extends}
 use Rattle.sat_solver.proofs.ReducingLemmas.{reduced_none, least_left, conflict_has_last}
 use Rattle.sat_solver.proofs.cube.reduce.Goals as goal

@@ -1,5 +1,5 @@
 -- What is kept of the literals before the place is decided, and conflicts with the others.
-use Rattle.sat_solver.specs.Deciding.{Extends}
+use Rattle.unit_propagation.specs.Propagation.{Extends}
 use Rattle.sat_solver.specs.Reducing.{IsReduced}
 use Rattle.sat_solver.proofs.cube.reduce.Given as goal
 

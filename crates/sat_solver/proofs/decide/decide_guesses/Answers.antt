@@ -1,6 +1,6 @@
 -- Each guess extends what was set.
 use Rattle.cnf_core.proofs.Literals.{no_lit}
-use Rattle.sat_solver.proofs.ExtendsLemmas.{extends_itself, extends_then}
+use Rattle.unit_propagation.proofs.ExtendsLaws.{extends_itself, extends_then}
 use Rattle.sat_solver.proofs.DecidingLemmas.{comes_conflict, comes_reached, width_extends}
 use Rattle.sat_solver.proofs.decide.decide_guesses.Goals as goal
 

@@ -1,5 +1,6 @@
 -- The literals that were decided so far are reached.
-use Rattle.sat_solver.specs.Deciding.{Extends, IsReached}
+use Rattle.unit_propagation.specs.Propagation.{Extends}
+use Rattle.sat_solver.specs.Deciding.{IsReached}
 use Rattle.sat_solver.proofs.decide.decide_guesses.Given as goal
 
 abbrev pub invariant-loop-l : goal.invariant-loop-l

@@ -1,7 +1,7 @@
 -- The literal was set before, or it is decided and propagation tells the rest.
 use Rattle.std.proofs.Common.{sym, subst}
 use Rattle.sat_solver.specs.Deciding.{EndsInConflict, IsReached}
-use Rattle.sat_solver.proofs.ExtendsLemmas.{extends_itself, extends_both, extends_continues}
+use Rattle.unit_propagation.proofs.ExtendsLaws.{extends_itself, extends_both, extends_continues}
 use Rattle.sat_solver.proofs.DecidingLemmas.{reached_conflict, reached_next, one_way_stands, one_way_decided}
 use Rattle.sat_solver.proofs.decide.decide_if_open.Goals as goal
 

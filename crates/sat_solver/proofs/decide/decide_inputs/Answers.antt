@@ -1,5 +1,5 @@
 -- The inputs extend what the guesses have set.
-use Rattle.sat_solver.proofs.ExtendsLemmas.{extends_on_ok}
+use Rattle.unit_propagation.proofs.ExtendsLaws.{extends_on_ok}
 use Rattle.sat_solver.proofs.decide.decide_inputs.Goals as goal
 
 pub returns-clause-extends : goal.returns-clause-extends

@@ -1,6 +1,6 @@
 -- Each input extends what was set, and is set itself.
 use Rattle.std.proofs.Common.{arith}
-use Rattle.sat_solver.proofs.ExtendsLemmas.{extends_itself, extends_then}
+use Rattle.unit_propagation.proofs.ExtendsLaws.{extends_itself, extends_then}
 use Rattle.sat_solver.proofs.DecidingLemmas.{comes_conflict, comes_reached, width_extends, set_to_none, set_to_more, set_to_all}
 use Rattle.sat_solver.proofs.decide.decide_rest.Goals as goal
 

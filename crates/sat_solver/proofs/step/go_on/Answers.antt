@@ -4,7 +4,7 @@ use Rattle.std.specs.Prelude.{All}
 use Rattle.unit_propagation.specs.Units.{IsWithin}
 use Rattle.unit_propagation.specs.Propagation.{Propagation}
 use Rattle.sat_solver.specs.Deciding.{IsReached}
-use Rattle.sat_solver.proofs.ExtendsLemmas.{extends_undone}
+use Rattle.unit_propagation.proofs.ExtendsLaws.{extends_undone}
 use Rattle.sat_solver.proofs.DecidingLemmas.{comes_reached}
 use Rattle.sat_solver.proofs.ModelLemmas.{is_model}
 use Rattle.sat_solver.proofs.step.go_on.Goals as goal

@@ -3,7 +3,7 @@ use Rattle.std.proofs.Common.{◌++◌, List, refl, sym, subst}
 use Rattle.cnf_core.specs.declared.formula.Lit.{Lit}
 use Rattle.cnf_core.specs.Propagation.{Conflicts}
 use Rattle.unit_propagation.specs.Propagation.{decisions}
-use Rattle.sat_solver.proofs.ExtendsLemmas.{extends_then, extends_continues}
+use Rattle.unit_propagation.proofs.ExtendsLaws.{extends_then, extends_continues}
 use Rattle.sat_solver.proofs.TrialLemmas.{stands_conflicts, conflicts_stands}
 use Rattle.sat_solver.proofs.trial.conflicts_above.Goals as goal
 

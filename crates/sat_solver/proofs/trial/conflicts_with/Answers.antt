@@ -1,5 +1,5 @@
 -- What was set on top is taken back.
-use Rattle.sat_solver.proofs.ExtendsLemmas.{extends_undone}
+use Rattle.unit_propagation.proofs.ExtendsLaws.{extends_undone}
 use Rattle.sat_solver.proofs.trial.conflicts_with.Goals as goal
 
 pub returns-clause-stays : goal.returns-clause-stays

@@ -5,7 +5,7 @@ use Rattle.cnf_core.specs.declared.formula.Lit.{Lit}
 use Rattle.cnf_core.proofs.Literals.{no_lit}
 use Rattle.unit_propagation.specs.Propagation.{decisions, IsRefuted}
 use Rattle.sat_solver.specs.Reducing.{StandsFor}
-use Rattle.sat_solver.proofs.ExtendsLemmas.{extends_itself, extends_then}
+use Rattle.unit_propagation.proofs.ExtendsLaws.{extends_itself, extends_then}
 use Rattle.sat_solver.proofs.TrialLemmas.{stands_none, stands_more, stands_refuted, stands_whole}
 use Rattle.sat_solver.proofs.trial.decide_each.Goals as goal
 

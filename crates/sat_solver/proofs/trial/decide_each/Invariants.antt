@@ -1,6 +1,5 @@
 -- The decided literals stand for those before the index too.
-use Rattle.unit_propagation.specs.Propagation.{decisions}
-use Rattle.sat_solver.specs.Deciding.{Extends}
+use Rattle.unit_propagation.specs.Propagation.{decisions, Extends}
 use Rattle.sat_solver.specs.Reducing.{StandsFor}
 use Rattle.sat_solver.proofs.TrialLemmas.{front}
 use Rattle.sat_solver.proofs.trial.decide_each.Given as goal

@@ -1,6 +1,6 @@
 -- A literal that is set stands as it is, and one that is ruled out is refused.
 use Rattle.unit_propagation.specs.Propagation.{decisions}
-use Rattle.sat_solver.proofs.ExtendsLemmas.{extends_itself}
+use Rattle.unit_propagation.proofs.ExtendsLaws.{extends_itself}
 use Rattle.sat_solver.proofs.TrialLemmas.{stands_set}
 use Rattle.sat_solver.proofs.trial.decide_unless_set.Goals as goal
 
