@@ -1,6 +1,6 @@
 -- The clauses of what is left of a question's term are about the question.
-use Rattle.std.proofs.Common.{◌≡◌, ◌≢◌, ℕ, zero, suc, ◌<◌, ◌⊎◌, inl, inr, Bool, false, List, [], ◌∷◌, ◌++◌, Option, Some, None, length, slice_get, get_or, refl, sym, ap, subst, ◌∙◌, arith}
-use Rattle.std.specs.Prelude.{map, IfOk}
+use Rattle.std.proofs.Common.{◌≡◌, ◌≢◌, ℕ, zero, suc, ◌<◌, ◌⊎◌, inl, inr, Bool, false, List, [], ◌∷◌, ◌++◌, Option, Some, None, length, slice_get, get_or, refl, sym, ap, subst, ◌∙◌, true≢false, arith}
+use Rattle.std.specs.Prelude.{map, is_some, ◌↔◌, IfOk, IfSome, IfNone, IsTrue}
 use Rattle.std.proofs.Common.{Result, Ok, Err}
 use Rattle.bit_blaster.specs.declared.formula.Blasted.{Blasted}
 use Rattle.std.specs.List.{All, AllZip, Contains}
@@ -24,9 +24,10 @@ use Rattle.term_dag.specs.declared.node.Term.{Term}
 use Rattle.term_dag.proofs.StandingLemmas.{has_mentioned, same_value, term_stands}
 use Rattle.term_dag.proofs.SubstituteLemmas.{bits_kept, reads_kept, bits_were, reads_were}
 use Rattle.term_dag.proofs.ValueLemmas.{one_value, values_were}
+use Rattle.bit_blaster.specs.Clauses.{IsExtendable}
 use Rattle.bit_blaster.specs.Vars.{AreVarsOf, AsksOneWidth, HasBit, HasBits, IsFormulaOf, IsOneSomewhere, Mentions}
 use Rattle.query_engine.specs.About.{AreBitsOf, AreFree, GoesBy, IsAbout, IsTrueWith}
-use Rattle.query_engine.specs.Question.{FixesInputs, IsAt, IsLeft, StandsSomewhere, fixed_bits, fixed_of}
+use Rattle.query_engine.specs.Question.{FixesInputs, IsAt, IsLeft, fixed_bits, fixed_of}
 use Rattle.query_engine.specs.declared.question.Question.{Question}
 use Rattle.query_engine.proofs.BitLemmas.{bit_there, same_number}
 use Rattle.query_engine.proofs.ListLemmas.{some_same, zip_at, zip_from}
@@ -66,14 +67,24 @@ pub reads_fit : (nodes : List Node) (t : Term) (at : Option (List Bool)) → Rea
 reads_fit nodes t at = record { widths = λ read width b m there. absurd (nothing_fixed read b there) }
 
 -- a point gives each read in one width
-pub stands_one_width : (nodes : List Node) → IsDag nodes → (t : Term) → StandsSomewhere nodes t → AsksOneWidth nodes t
-stands_one_width nodes dag t h = record {
+pub stands_one_width : (nodes : List Node) → IsDag nodes → (t : Term) (p : Point) (b : Bits) → Values nodes p t b → AsksOneWidth nodes t
+stands_one_width nodes dag t p b stands = record {
   each = λ read v w m n.
-      let has = has_mentioned nodes dag h.point t h.number h.stands in
+      let has = has_mentioned nodes dag p t b stands in
       let x = has.reads read v m in
       let y = has.reads read w n in
       sym x.1.width ∙ ap (λ (b : Bits). b.width) (some_same x.0 y.0 (sym x.1.there ∙ y.1.there)) ∙ y.1.width;
 }
+
+-- a term stands for a number at a point that has all that it mentions, exactly where it asks for each read in one width
+pub stands_if : (nodes : List Node) → IsDag nodes → (t : Term) → t.number < length nodes → (p : Point) →
+    (AsksOneWidth nodes t → HasMentioned nodes t p) → (found : Option Bits) → IfSome found (Values nodes p t) →
+    IfNone found ((b : Bits) → ¬ Values nodes p t b) → IsTrue (is_some found) ↔ AsksOneWidth nodes t
+stands_if nodes dag t within p has (Some b) stands none = (λ some. stands_one_width nodes dag t p b stands, λ one. refl)
+stands_if nodes dag t within p has None stands none = (
+  λ some. absurd (true≢false (sym some)),
+  λ one. let b = term_stands nodes dag p t within (has one) in absurd (none b.0 b.1),
+)
 
 -- ---- what is left, in the dag that has grown
 
@@ -84,6 +95,12 @@ module _ (old new : List Node) (dag : IsDag old) (keeps : (more : List Node) × 
   pub one_width_still : AsksOneWidth old t → AsksOneWidth new t
   one_width_still one = grown (λ n. AsksOneWidth n t) record {
     each = λ read v w m n. one.each read v w (reads_were old keeps.0 dag t within read v m) (reads_were old keeps.0 dag t within read w n);
+  }
+
+  pub two_widths_still : ¬ AsksOneWidth old t → ¬ AsksOneWidth new t
+  two_widths_still not_one one = not_one record {
+    each = λ read v w m n. one.each read v w (grown (λ n. MentionsRead n t read v) (reads_kept old keeps.0 dag t read v m))
+        (grown (λ n. MentionsRead n t read w) (reads_kept old keeps.0 dag t read w n));
   }
 
   pub vars_still : (all : List Var) → AreVarsOf old t all → AreVarsOf new t all
@@ -101,7 +118,7 @@ module _ (old new : List Node) (dag : IsDag old) (keeps : (more : List Node) × 
   fixes_still (Some bits) fixes =
       grown (λ n. FixesInputs n t (Some bits)) (λ bit m. fixes bit (bits_were old keeps.0 dag t within bit m))
 
-  pub left_is : (fixed : Fixed) (left : Term) → left.number < length new → width_of new left ≡ width_of old t → width_of new t ≡ width_of old t →
+  left_is : (fixed : Fixed) (left : Term) → left.number < length new → width_of new left ≡ width_of old t → width_of new t ≡ width_of old t →
       ((p q : Point) (b : Bits) → IsOverlaid fixed p q → Values old q t b → Values new p left b) →
       ((bit : ℕ) → MentionsBit new left bit → MentionsBit old t bit) →
       ((bit : ℕ) → MentionsBit new left bit → ¬ IsFixedAt fixed.inputs bit) →
@@ -116,6 +133,19 @@ module _ (old new : List Node) (dag : IsDag old) (keeps : (more : List Node) × 
     reads = λ read w m. grown (λ n. MentionsRead n t read w) (reads_kept old keeps.0 dag t read w (reads read w m));
     free_reads = free_reads;
   }
+
+  -- what is told of a substitution, where it succeeds
+  pub ok_is_left : {E : Type 0} (fixed : Fixed) (r : Result Term E) → width_of new t ≡ width_of old t → IfOk r (λ x. x.number < length new) →
+      IfOk r (λ x. width_of new x ≡ width_of old t) → IfOk r (λ x. (p q : Point) (b : Bits) → IsOverlaid fixed p q → Values old q t b → Values new p x b) →
+      IfOk r (λ x. (bit : ℕ) → MentionsBit new x bit → MentionsBit old t bit) →
+      IfOk r (λ x. (bit : ℕ) → MentionsBit new x bit → ¬ IsFixedAt fixed.inputs bit) →
+      IfOk r (λ x. (read width : ℕ) → MentionsRead new x read width → MentionsRead old t read width) →
+      IfOk r (λ x. (read width : ℕ) → MentionsRead new x read width → ¬ IsFixedAt fixed.reads read) →
+      (q : Question) → q.term ≡ t → fixed ≡ fixed_of q.at → IfOk r (IsLeft new q)
+  ok_is_left fixed (Ok x) same inside width value bits free_bits reads free_reads q is_term is_fixed =
+      subst (λ (u : Term). IsSubstitute new (fixed_of q.at) u x) (sym is_term)
+      (subst (λ (f : Fixed). IsSubstitute new f t x) is_fixed (left_is fixed x inside width same value bits free_bits reads free_reads))
+  ok_is_left fixed (Err e) same inside width value bits free_bits reads free_reads q is_term is_fixed = tt
 
 -- ---- the question goes by the bits of what is left
 
@@ -195,8 +225,7 @@ values_of nodes t p has vars mentioned = by vars (λ k v at. all_at (Mentions no
       (b.0 ∷ rest.0, ap suc rest.1, record { each = (b.1, rest.2.each) })
 
 module _ (nodes : List Node) (dag : IsDag nodes) (q : Question) (left : Term) (is_left : IsLeft nodes q left)
-    (fixes : FixesInputs nodes q.term q.at) (one_width : AsksOneWidth nodes q.term) (within : q.term.number < length nodes)
-    (vars : List Var) (are : AreVarsOf nodes left vars) where
+    (fixes : FixesInputs nodes q.term q.at) (vars : List Var) (are : AreVarsOf nodes left vars) where
   left_value : (p : Point) (b : Bits) → IsAt q.at p → Values nodes p q.term b → Values nodes p left b
   left_value p b at v = is_left.value p p b (over_itself q.at p at) v
 
@@ -277,8 +306,8 @@ module _ (nodes : List Node) (dag : IsDag nodes) (q : Question) (left : Term) (i
 
   -- ---- the clauses
 
-  module _ (all : List Var) (are_all : AreVarsOf nodes q.term all) (clauses : List (List Lit))
-      (formula : IsFormulaOf nodes left vars clauses) (determined : IsDetermined (length vars) clauses) where
+  module _ (one_width : AsksOneWidth nodes q.term) (within : q.term.number < length nodes) (all : List Var) (are_all : AreVarsOf nodes q.term all)
+      (clauses : List (List Lit)) (formula : IsFormulaOf nodes left vars clauses) (determined : IsDetermined (length vars) clauses) where
     -- some point that the question asks about has the values, and all that the term mentions
     some_point : (values : List Bool) → length values ≡ length vars → (p : Point) × IsAt q.at p × HasBits p vars values × HasMentioned nodes q.term p
     some_point values long = by (point_with nodes dag q.term all are_all cut (map (value_of vars values) all) (length-map all (value_of vars values))) where
@@ -337,6 +366,20 @@ module _ (nodes : List Node) (dag : IsDag nodes) (q : Question) (left : Term) (i
       determined = determined;
     }
 
+  -- where a read is asked for in two widths the question is true nowhere, and the empty clause says so
+  pub never_is_about : ¬ AsksOneWidth nodes q.term → IsAbout nodes q vars ([] ∷ [])
+  never_is_about not_one_width = record {
+    bits = bits_are;
+    goes_by = goes_by;
+    exact = λ values long. (λ h. absurd (not_true values h), λ h. absurd (not_extendable values h));
+    determined = λ chosen chooses. inl (0, [], omega arith, refl, λ i d l. absurd (omega arith));
+  } where
+    not_true : (values : List Bool) → IsTrueWith nodes q vars values → ⊥
+    not_true values h = not_one_width (stands_one_width nodes dag q.term h.point h.one.number h.one.stands)
+
+    not_extendable : (values : List Bool) → IsExtendable ([] ∷ []) values → ⊥
+    not_extendable values h = let empty = h.satisfies 0 [] (omega arith) in omega (arith, empty.2)
+
 -- what the calls say together, where they succeed
 module _ {E : Type 0} (nodes : List Node) (dag : IsDag nodes) (q : Question) (left : Term) (is_left : IsLeft nodes q left)
     (r : Result Blasted E) (are : IfOk r (λ b. AreVarsOf nodes left b.vars)) where
@@ -346,8 +389,17 @@ module _ {E : Type 0} (nodes : List Node) (dag : IsDag nodes) (q : Question) (le
   ok_about fixes one_width within all are_all formula determined = by r are formula determined where
     by : (s : Result Blasted E) → IfOk s (λ b. AreVarsOf nodes left b.vars) → IfOk s (λ b. IsFormulaOf nodes left b.vars b.clauses) →
         IfOk s (λ b. IsDetermined (length b.vars) b.clauses) → IfOk s (λ b. IsAbout nodes q b.vars b.clauses)
-    by (Ok b) v f d = is_about nodes dag q left is_left fixes one_width within b.vars v all are_all b.clauses f d
+    by (Ok b) v f d = is_about nodes dag q left is_left fixes b.vars v one_width within all are_all b.clauses f d
     by (Err e) v f d = tt
+
+  pub ok_never : FixesInputs nodes q.term q.at → ¬ AsksOneWidth nodes q.term → IfOk r (λ b. b.clauses ≡ [] ∷ []) →
+      IfOk r (λ b. IsAbout nodes q b.vars b.clauses)
+  ok_never fixes not_one_width never = by r are never where
+    by : (s : Result Blasted E) → IfOk s (λ b. AreVarsOf nodes left b.vars) → IfOk s (λ b. b.clauses ≡ [] ∷ []) →
+        IfOk s (λ b. IsAbout nodes q b.vars b.clauses)
+    by (Ok b) v n = subst (λ (cs : List (List Lit)). IsAbout nodes q b.vars cs) (sym n)
+        (never_is_about nodes dag q left is_left fixes b.vars v not_one_width)
+    by (Err e) v n = tt
 
   pub ok_left : IfOk r (λ b. (x : Term) × IsLeft nodes q x × AreVarsOf nodes x b.vars)
   ok_left = by r are where

@@ -1,5 +1,5 @@
 -- What an answer of the solver says of the question.
-use Rattle.std.proofs.Common.{◌≡◌, ◌≢◌, ℕ, ◌<◌, Bool, List, [], ◌∷◌, ◌++◌, Option, None, Some, length, take, drop, refl, sym, ap, subst, ◌∙◌, arith}
+use Rattle.std.proofs.Common.{◌≡◌, ◌≢◌, ℕ, ◌<◌, inl, inr, Bool, List, [], ◌∷◌, ◌++◌, Option, None, Some, length, take, drop, refl, sym, ap, subst, ◌∙◌, arith}
 use Rattle.std.proofs.Common.{Result, Ok, Err}
 use Rattle.std.specs.Prelude.{IfOk}
 use Rattle.std.specs.List.{Contains}
@@ -23,11 +23,11 @@ use Rattle.term_dag.specs.declared.node.Node.{Node}
 use Rattle.term_dag.specs.declared.node.Term.{Term}
 use Rattle.term_dag.proofs.StandingLemmas.{has_mentioned, term_stands}
 use Rattle.bit_blaster.specs.Clauses.{IsExtendable}
-use Rattle.bit_blaster.specs.Vars.{AreVarsOf, HasBits}
+use Rattle.bit_blaster.specs.Vars.{AreVarsOf, AsksOneWidth, HasBits}
 use Rattle.query_engine.specs.About.{AreBitsOf, AreFree, GoesBy, IsAbout, IsTrueWith}
 use Rattle.query_engine.specs.Question.{IfSpent, IsAt, IsConstant, IsLeft, IsOne, IsYesAt}
 use Rattle.query_engine.specs.declared.question.Question.{Question}
-use Rattle.query_engine.proofs.AboutLemmas.{values_of}
+use Rattle.query_engine.proofs.AboutLemmas.{stands_one_width, values_of}
 use Rattle.query_engine.proofs.PointLemmas.{contains_at}
 
 module _ (nodes : List Node) (dag : IsDag nodes) (q : Question) (within : q.term.number < length nodes) where
@@ -39,10 +39,11 @@ module _ (nodes : List Node) (dag : IsDag nodes) (q : Question) (within : q.term
       let e : h.one.number ≡ c.0 = goes h.point point values h.one.number c.0 h.at at h.bits bits h.one.stands c.1 in
       record { number = c.0; stands = c.1; is_one = ap (λ (x : Bits). x.value) (sym e) ∙ h.one.is_one }
 
-  pub constant_no : GoesBy nodes q [] → (point : Point) → IsAt q.at point → HasMentioned nodes q.term point → (IsOne nodes q.term point → ⊥) →
-      (p : Point) → ¬ IsYesAt nodes q p
+  pub constant_no : GoesBy nodes q [] → (point : Point) → IsAt q.at point → (AsksOneWidth nodes q.term → HasMentioned nodes q.term point) →
+      (IsOne nodes q.term point → ⊥) → (p : Point) → ¬ IsYesAt nodes q p
   constant_no goes point at has not_one p answer =
-      not_one (one_there [] [] goes point at has record { each = tt } record {
+      let one_width = stands_one_width nodes dag q.term p answer.one.number answer.one.stands in
+      not_one (one_there [] [] goes point at (has one_width) record { each = tt } record {
         point = p;
         at = answer.at;
         bits = record { each = tt };
@@ -58,11 +59,11 @@ module _ (nodes : List Node) (dag : IsDag nodes) (q : Question) (within : q.term
     }
 
     pub sat_yes : (bits : List Bool) (point : Point) → length bits ≡ length vars → IsExtendable clauses bits → IsAt q.at point →
-        HasMentioned nodes q.term point → HasBits point vars bits → IsYesAt nodes q point
-    sat_yes bits point long sat at has given = record {
-      at = at;
-      one = one_there vars bits about.goes_by point at has given ((about.exact bits long).1 sat);
-    }
+        (AsksOneWidth nodes q.term → HasMentioned nodes q.term point) → HasBits point vars bits → IsYesAt nodes q point
+    sat_yes bits point long sat at has given =
+        let h = (about.exact bits long).1 sat in
+        let one_width = stands_one_width nodes dag q.term h.point h.one.number h.one.stands in
+        record { at = at; one = one_there vars bits about.goes_by point at (has one_width) given h }
 
     pub unsat_no : IsUnsatisfiable clauses → (p : Point) → ¬ IsYesAt nodes q p
     unsat_no unsat p answer =
@@ -121,7 +122,7 @@ module _ {E : Type 0} (nodes : List Node) (q : Question) (allowance : ℕ) (left
       IfOk r (λ d. Logs nodes q allowance d old new)
   ok_asked old new some adds = by r adds where
     by : (s : Result Decided E) → IfOk s (λ d. AddsRecord nodes q allowance d old new) → IfOk s (λ d. Logs nodes q allowance d old new)
-    by (Ok d) h = record { left = left; is_left = is_left; constant = λ c. absurd (some c); asked = λ n. h }
+    by (Ok d) h = record { left = left; is_left = is_left; adds = inr (some, h) }
     by (Err e) h = tt
 
   pub ok_constant : (log : List Record) → IsConstant nodes left → IfOk r (λ d. IfSpent d ⊥) → IfOk r (λ d. Logs nodes q allowance d log log)
@@ -130,7 +131,6 @@ module _ {E : Type 0} (nodes : List Node) (q : Question) (allowance : ℕ) (left
     by (Ok d) h = record {
       left = left;
       is_left = is_left;
-      constant = λ c. record { constant = c; same = refl; answered = h };
-      asked = λ n. absurd (n constant);
+      adds = inl (record { constant = constant; same = refl; answered = h });
     }
     by (Err e) h = tt

@@ -115,12 +115,13 @@ module _ (at : Option (List Bool)) (now point : Point) (vars : List Var) (values
 -- what the calls say together, where they succeed
 module _ {E : Type 0} (at : Option (List Bool)) (now : Point) (r : Result Point E) (is_at : IfOk r (IsAt at)) (reads : IfOk r (λ p. p.reads ≡ now.reads))
     (inputs : at ≡ None → IfOk r (λ p. p.inputs ≡ now.inputs)) where
-  pub ok_has : (nodes : List Node) → IsDag nodes → (t : Term) → AsksOneWidth nodes t → FixesInputs nodes t at → (all : List Var) →
-      AreVarsOf nodes t all → (blank : Point) → IsBlank (Contains all) blank → KeepsBits blank now → IfOk r (HasMentioned nodes t)
-  ok_has nodes dag t one_width fixes all are blank is_blank keeps = by r is_at reads inputs where
+  pub ok_has : (nodes : List Node) → IsDag nodes → (t : Term) → FixesInputs nodes t at → (all : List Var) →
+      AreVarsOf nodes t all → (blank : Point) → IsBlank (Contains all) blank → KeepsBits blank now →
+      IfOk r (λ p. AsksOneWidth nodes t → HasMentioned nodes t p)
+  ok_has nodes dag t fixes all are blank is_blank keeps = by r is_at reads inputs where
     by : (s : Result Point E) → IfOk s (IsAt at) → IfOk s (λ p. p.reads ≡ now.reads) → (at ≡ None → IfOk s (λ p. p.inputs ≡ now.inputs)) →
-        IfOk s (HasMentioned nodes t)
-    by (Ok p) a b e = has_all nodes dag t one_width at fixes all are blank now p is_blank keeps a b e
+        IfOk s (λ p. AsksOneWidth nodes t → HasMentioned nodes t p)
+    by (Ok p) a b e = λ one_width. has_all nodes dag t one_width at fixes all are blank now p is_blank keeps a b e
     by (Err f) a b e = tt
 
   pub ok_bits : (vars : List Var) (values : List Bool) → AreFree at vars → HasBits now vars values → IfOk r (λ p. HasBits p vars values)

@@ -1,5 +1,5 @@
 -- What a question adds to the log.
-use Rattle.std.specs.Prelude.{◌≡◌, ◌≢◌, ◌<◌, ◌^◌, ◌∷◌, ◌++◌, ⊤, ℕ, List, [], Some, All, length}
+use Rattle.std.specs.Prelude.{◌≡◌, ◌≢◌, ◌<◌, ◌^◌, ◌∷◌, ◌++◌, ◌⊎◌, ⊤, ℕ, List, [], Some, All, length}
 use Rattle.cnf_core.specs.declared.derivation.Derived.{Derived}
 use Rattle.cnf_core.specs.declared.derivation.Derived.TheVariants.{Cube, Step}
 use Rattle.cnf_core.specs.declared.derivation.Var.{Var}
@@ -73,5 +73,4 @@ pub record AddsNothing (nodes : List Node) (left : Term) (decided : Decided) (ol
 pub record Logs (nodes : List Node) (q : Question) (allowance : ℕ) (decided : Decided) (old new : List Record) : Type 0 where
   pub left : Term
   pub is_left : IsLeft nodes q left
-  pub constant : IsConstant nodes left → AddsNothing nodes left decided old new
-  pub asked : ¬ IsConstant nodes left → AddsRecord nodes q allowance decided old new
+  pub adds : AddsNothing nodes left decided old new ⊎ ((¬ IsConstant nodes left) × AddsRecord nodes q allowance decided old new)

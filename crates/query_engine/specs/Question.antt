@@ -36,12 +36,6 @@ pub record IsYesAt (nodes : List Node) (q : Question) (p : Point) : Type 0 where
   pub at : IsAt q.at p
   pub one : IsOne nodes q.term p
 
--- at some point the term stands for a number, so that it asks for no read in two widths
-pub record StandsSomewhere (nodes : List Node) (t : Term) : Type 0 where
-  pub point : Point
-  pub number : Bits
-  pub stands : Values nodes point t number
-
 -- ---- the term with the fixed bits put in
 
 abbrev pub fixed_bits : Option (List Bool) → List (Option Bool)

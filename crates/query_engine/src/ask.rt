@@ -5,8 +5,7 @@ ghost use Rattle.cnf_core.specs.Determined.{AreNumbered};
 ghost use Rattle.cnf_core.specs.Literal.{IsApart};
 ghost use Rattle.proof_stream.specs.Valid.{IsAtOf};
 ghost use Rattle.refutation_checker.specs.Acceptance.{IsAccepted};
-ghost use Rattle.term_dag.specs.Mention.{HasMentioned};
-ghost use Rattle.bit_blaster.specs.Vars.{AreVarsOf, AsksOneWidth};
+ghost use Rattle.bit_blaster.specs.Vars.{AreVarsOf};
 ghost use Rattle.query_engine.specs.About.{GoesBy, IsAbout};
 ghost use Rattle.query_engine.specs.Logged.{AddsRecord, HasNumbers, SaysAnswer, derivation};
 ghost use Rattle.query_engine.specs.Question.{FixesInputs, IfNo, IfSpent, IfYes, IsOne, IsYesAt};
@@ -30,7 +29,6 @@ pub(crate) fn constant_answer(
     all: &[Var],
 ) -> Result<Decided, AllocError>
     requires within { question.now.term.number < length dag.now }
-    requires one_width { AsksOneWidth dag.now question.now.term }
     requires inputs { FixesInputs dag.now question.now.term question.now.at }
     requires all { AreVarsOf dag.now question.now.term all.now }
     requires constant { GoesBy dag.now question.now [] }
@@ -58,7 +56,6 @@ pub(crate) fn ask(
     log: &mut ProofLog,
 ) -> Result<Decided, AllocError>
     requires within { question.now.term.number < length dag.now }
-    requires one_width { AsksOneWidth dag.now question.now.term }
     requires inputs { FixesInputs dag.now question.now.term question.now.at }
     requires all { AreVarsOf dag.now question.now.term all.now }
     requires about { IsAbout dag.now question.now blasted.vars blasted.clauses }
@@ -108,7 +105,6 @@ fn solved(
     allowance: u32,
 ) -> Result<Outcome, AllocError>
     requires within { question.now.term.number < length dag.now }
-    requires one_width { AsksOneWidth dag.now question.now.term }
     requires inputs { FixesInputs dag.now question.now.term question.now.at }
     requires all { AreVarsOf dag.now question.now.term all.now }
     requires about { IsAbout dag.now question.now vars.now clauses.now }
@@ -164,15 +160,14 @@ fn copy(alloc: Global, at: &Option<Truths>) -> Result<Option<Truths>, AllocError
     }
 }
 
-/// Whether the term is 1 at a point that has all that it mentions.
+/// Whether the term is 1 at the point.
 fn is_one(dag: &Dag, t: Term, point: &Point) -> Result<bool, AllocError>
-    requires within { t.number < length dag.now }
-    requires has { HasMentioned dag.now t point.now }
+    requires { t.number < length dag.now }
     ensures { IfOk result (λ b. IsTrue b ↔ IsOne dag.now t point.now) }
 {
     let _ = dag.len();
     match dag.value_at(t, point)? {
         Some(bits) => Ok(bits.value == 1),
-        None => unreachable!(),
+        None => Ok(false),
     }
 }

@@ -1,5 +1,5 @@
 //! What a question asks, as clauses.
-ghost use Rattle.std.specs.Prelude.{◌≡◌, ◌<◌, ◌^◌, ◌++◌, List, IfOk, length, map, Some};
+ghost use Rattle.std.specs.Prelude.{◌≡◌, ◌<◌, ◌^◌, ◌∷◌, ◌++◌, ◌↔◌, List, [], IfOk, IsTrue, length, map, Some};
 ghost use Rattle.std.specs.List.{All};
 ghost use Rattle.cnf_core.specs.Determined.{AreNumbered};
 ghost use Rattle.cnf_core.specs.Literal.{IsApart};
@@ -11,17 +11,18 @@ ghost use Rattle.query_engine.specs.About.{IsAbout};
 ghost use Rattle.query_engine.specs.Question.{FixesInputs, IsLeft, fixed_of};
 
 use crate::base::Base;
+use crate::point::point_with;
 use crate::question::Question;
-use bit_blaster::{Blasted, clauses_of};
-use cnf_core::Var;
+use bit_blaster::{Blasted, bits_of, clauses_of};
+use cnf_core::{Clauses, Var};
 use proof_stream::Truths;
 use sqlite_items::Items;
 use std::alloc::{AllocError, Global};
-use term_dag::{Fixed, Term};
+use term_dag::{Dag, Fixed, Term};
 
-/// The clauses of the question's term with the fixed bits put in, and the bits that they are about; `all` has all bits of the
-/// term. More than 2^32 fixed bits
-/// are want of memory.
+/// The bits of the question's term that are not fixed, and clauses about the question over them; `all` has all bits of the
+/// term. A term that asks for a read in two widths is 1 nowhere, also where what is left of it asks for one of them alone.
+/// More than 2^32 fixed bits are want of memory.
 pub(crate) fn question_clauses(
     alloc: Global,
     base: &mut Base,
@@ -30,7 +31,6 @@ pub(crate) fn question_clauses(
 ) -> Result<Blasted, AllocError>
     requires within { question.now.term.number < length base.old.domain.dag }
     requires one_bit { width_of base.old.domain.dag question.now.term ≡ 1 }
-    requires one_width { AsksOneWidth base.old.domain.dag question.now.term }
     requires inputs { FixesInputs base.old.domain.dag question.now.term question.now.at }
     requires all { AreVarsOf base.old.domain.dag question.now.term all.now }
     ensures keeps { (more : List NodeValue)
@@ -45,9 +45,58 @@ pub(crate) fn question_clauses(
     ensures apart { IfOk result (λ b. All IsApart b.clauses) }
 {
     let _ = (base.domain.dag.len(), all.len());
+    let one_width = asks_one_width(alloc, &base.domain.dag, question, all)?;
+    let left = left_of(alloc, &mut base.domain.dag, question)?;
+    if one_width {
+        clauses_of(alloc, &base.domain.dag, left)
+    } else {
+        never(alloc, &base.domain.dag, left)
+    }
+}
+
+/// The question's term with the fixed bits put in.
+fn left_of(alloc: Global, dag: &mut Dag, question: &Question) -> Result<Term, AllocError>
+    requires { question.now.term.number < length dag.old }
+    ensures keeps { (more : List NodeValue) × (dag.new ≡ dag.old ++ more) }
+    ensures dag { IsDag dag.new }
+    ensures within { question.now.term.number < length dag.new }
+    ensures width { IfOk result (λ left. width_of dag.new left
+        ≡ width_of dag.old question.now.term) }
+    ensures left { IfOk result (IsLeft dag.new question.now) }
+{
+    let _ = dag.len();
     let fixed = fixed(alloc, &question.at)?;
-    let left = base.domain.dag.substitute(question.term, &fixed)?;
-    clauses_of(alloc, &base.domain.dag, left)
+    dag.substitute(question.term, &fixed)
+}
+
+/// Whether the question's term asks for each read in one width: whether it stands for a number where all its bits are there.
+fn asks_one_width(
+    alloc: Global,
+    dag: &Dag,
+    question: &Question,
+    all: &[Var],
+) -> Result<bool, AllocError>
+    requires within { question.now.term.number < length dag.now }
+    requires inputs { FixesInputs dag.now question.now.term question.now.at }
+    requires all { AreVarsOf dag.now question.now.term all.now }
+    ensures { IfOk result (λ b. IsTrue b ↔ AsksOneWidth dag.now question.now.term) }
+{
+    let _ = dag.len();
+    let point = point_with(alloc, dag, question, all, &[], &[])?;
+    Ok(dag.value_at(question.term, &point)?.is_some())
+}
+
+/// The term's bits, and clauses that no values of them satisfy.
+fn never(alloc: Global, dag: &Dag, t: Term) -> Result<Blasted, AllocError>
+    requires { t.number < length dag.now }
+    ensures vars { IfOk result (λ b. AreVarsOf dag.now t b.vars) }
+    ensures few_vars { IfOk result (λ b. length b.vars < 2 ^ 32) }
+    ensures clauses { IfOk result (λ b. b.clauses ≡ [] ∷ []) }
+{
+    let vars = bits_of(alloc, dag, t)?;
+    let mut clauses = Clauses::new(alloc);
+    clauses.push(Items::new(alloc))?;
+    Ok(Blasted { vars, clauses })
 }
 
 /// The fixed bits, each at its place.

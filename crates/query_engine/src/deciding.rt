@@ -5,7 +5,7 @@ ghost use Rattle.proof_stream.specs.Valid.{IsAtOf};
 ghost use Rattle.term_dag.specs.Width.{IsDag, width_of};
 ghost use Rattle.term_dag.specs.declared.node.Node.{Node as NodeValue};
 ghost use Rattle.query_engine.specs.Logged.{Logs};
-ghost use Rattle.query_engine.specs.Question.{FixesInputs, IfNo, IfYes, IsYesAt, StandsSomewhere};
+ghost use Rattle.query_engine.specs.Question.{FixesInputs, IfNo, IfYes, IsYesAt};
 
 use crate::ask::{ask, constant_answer};
 use crate::base::Base;
@@ -26,7 +26,6 @@ pub fn decide(
 ) -> Result<Decided, AllocError>
     requires within { question.now.term.number < length base.old.domain.dag }
     requires one_bit { width_of base.old.domain.dag question.now.term ≡ 1 }
-    requires stands { StandsSomewhere base.old.domain.dag question.now.term }
     requires at { IsAtOf question.now.kind question.now.at }
     requires inputs { FixesInputs base.old.domain.dag question.now.term question.now.at }
     ensures keeps { (more : List NodeValue)

@@ -17,7 +17,8 @@ use sqlite_items::Items;
 use std::alloc::{AllocError, Global};
 use term_dag::Dag;
 
-/// A point that the question asks about, with these values for some of the term's bits. The others are 0.
+/// A point that the question asks about, with these values for some of the term's bits. The others are 0. It has all that the
+/// term mentions, but where this asks for a read in two widths.
 pub(crate) fn point_with(
     alloc: Global,
     dag: &Dag,
@@ -27,13 +28,13 @@ pub(crate) fn point_with(
     values: &[bool],
 ) -> Result<Point, AllocError>
     requires within { question.now.term.number < length dag.now }
-    requires one_width { AsksOneWidth dag.now question.now.term }
     requires inputs { FixesInputs dag.now question.now.term question.now.at }
     requires all { AreVarsOf dag.now question.now.term all.now }
     requires vars { AreBitsOf dag.now question.now vars.now }
     requires long { length values.now ≡ length vars.now }
     ensures at { IfOk result (IsAt question.now.at) }
-    ensures has { IfOk result (HasMentioned dag.now question.now.term) }
+    ensures has { IfOk result (λ p. AsksOneWidth dag.now question.now.term
+        → HasMentioned dag.now question.now.term p) }
     ensures bits { IfOk result (λ p. HasBits p vars.now values.now) }
 {
     let _ = dag.len();

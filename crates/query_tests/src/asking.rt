@@ -1,7 +1,6 @@
 //! Questions whose terms are tried first at the point of port 4.
 ghost use Rattle.std.specs.Prelude.{◌≡◌, ◌<◌, IfOk, IsTrue, length};
 ghost use Rattle.term_dag.specs.Width.{width_of};
-ghost use Rattle.query_engine.specs.Question.{StandsSomewhere};
 
 use bits_core::{BitsList, Point};
 use proof_stream::{End, Kind, ProofLog, Record};
@@ -18,7 +17,6 @@ pub(crate) const FOUR: [bool; 9] = [false, false, false, false, false, false, tr
 fn is_one_bit(dag: &Dag, term: Term, point: &Point) -> Result<bool, AllocError>
     ensures within { IfOk result (λ b. IsTrue b → term.number < length dag.now) }
     ensures one_bit { IfOk result (λ b. IsTrue b → width_of dag.now term ≡ 1) }
-    ensures stands { IfOk result (λ b. IsTrue b → StandsSomewhere dag.now term) }
 {
     terms_stand_for_one_number();
     if term.number >= dag.len() {

@@ -3,18 +3,9 @@ use Rattle.std.proofs.Common.{List, subst, sym, ◌∙◌, true≢false}
 use Rattle.cnf_core.specs.declared.derivation.Var.{Var}
 use Rattle.bit_blaster.specs.Vars.{AreVarsOf}
 use Rattle.query_engine.specs.About.{GoesBy}
-use Rattle.query_engine.proofs.AboutLemmas.{fixes_still, one_width_still, stands_one_width, vars_still}
+use Rattle.query_engine.proofs.AboutLemmas.{fixes_still, vars_still}
 use Rattle.query_engine.proofs.AnswerLemmas.{not_constant, ok_asked}
 use Rattle.query_engine.proofs.deciding.decide.Goals as goal
-
-pub question_clauses-requires-clause-one_width : goal.question_clauses-requires-clause-one_width
-question_clauses-requires-clause-one_width c =
-    stands_one_width c.args.base.now.domain.dag c.len.ensures.dag c.args.question.now.term c.requires.stands
-
-pub constant_answer-requires-clause-one_width : goal.constant_answer-requires-clause-one_width
-constant_answer-requires-clause-one_width c =
-    one_width_still c.args.base.now.domain.dag c.question_clauses.new.base.domain.dag c.len.ensures.dag c.question_clauses.ensures.keeps
-    c.args.question.now.term c.requires.within (stands_one_width c.args.base.now.domain.dag c.len.ensures.dag c.args.question.now.term c.requires.stands)
 
 pub constant_answer-requires-clause-inputs : goal.constant_answer-requires-clause-inputs
 constant_answer-requires-clause-inputs c =
@@ -31,11 +22,6 @@ pub constant_answer-requires-clause-constant : goal.constant_answer-requires-cla
 constant_answer-requires-clause-constant c =
     subst (λ (vs : List Var). GoesBy c.question_clauses.new.base.domain.dag c.args.question.now vs)
     (c.is_empty.ensures.0 c.if-is_empty.true) c.in_ok-blasted.ensures.about.goes_by
-
-pub ask-requires-clause-one_width : goal.ask-requires-clause-one_width
-ask-requires-clause-one_width c =
-    one_width_still c.args.base.now.domain.dag c.question_clauses.new.base.domain.dag c.len.ensures.dag c.question_clauses.ensures.keeps
-    c.args.question.now.term c.requires.within (stands_one_width c.args.base.now.domain.dag c.len.ensures.dag c.args.question.now.term c.requires.stands)
 
 pub ask-requires-clause-inputs : goal.ask-requires-clause-inputs
 ask-requires-clause-inputs c =

@@ -13,7 +13,7 @@ set_bits-requires-clause-zeros c =
 pub returns-clause-has : goal.returns-clause-has
 returns-clause-has c =
     ok_has c.args.question.now.at c.set_bits.new.point c.fixed_at.result c.fixed_at.ensures.at c.fixed_at.ensures.reads c.fixed_at.ensures.free
-    c.args.dag.now c.len.ensures.dag c.args.question.now.term c.requires.one_width c.requires.inputs c.args.all.now c.requires.all
+    c.args.dag.now c.len.ensures.dag c.args.question.now.term c.requires.inputs c.args.all.now c.requires.all
     c.in_ok-point.point c.in_ok-point.ensures c.set_bits.ensures.keeps
 
 pub returns-clause-bits : goal.returns-clause-bits
