@@ -6,6 +6,7 @@ pub mod Outcome
 pub mod Parser
 pub mod Reads
 pub mod Run
+pub mod Runs
 pub mod Statements
 pub mod Store
 pub mod Test

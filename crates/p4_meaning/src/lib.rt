@@ -6,12 +6,17 @@
 //! - `RightVerdicts`, `Chosen`: which verdicts are right, and how tests are chosen;
 //! - `Holds`, `Tight`: what a test promises.
 //!
-//! Nothing here says how an answer is found.
+//! Nothing here says how an answer is found. These are runs of the first skeleton. Runs of every
+//! typed program, with the same definitions upon them, are in `specs/Runs`: what holds of them is in
+//! `run_laws`, and small runs worked out are in `run_examples`.
 #![tactic(auto)]
 
 pub mod laws;
 mod outcome;
+pub mod run_examples;
+pub mod run_laws;
 mod test;
+pub mod typed_test;
 mod verdict;
 
 pub use outcome::{Outcome, Shape, outcome_shape};
