@@ -1,0 +1,8 @@
+pub mod NotedLaws
+pub mod NameLaws
+pub mod NumberedLaws
+pub mod IntegerLaws
+pub mod ScopeLaws
+pub mod CastLaws
+pub mod LiteralLaws
+pub mod ArithmeticLaws
