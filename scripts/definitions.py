@@ -55,11 +55,19 @@ def crates():
             yield line.split(":")[0].split()[0]
 
 
+def files_in(folder):
+    """The files of definitions in a folder and the folders below it, by name; those that only name others are left out."""
+    found = []
+    for at, _, names in os.walk(folder):
+        found += [os.path.relpath(f"{at}/{it}", folder) for it in names if it.endswith(".antt")]
+    return sorted(it for it in found if it != "Lib.antt" and not os.path.isdir(f"{folder}/{it[:-5]}"))
+
+
 def text():
     out = [HEAD]
     for crate in crates():
         folder = f"crates/{crate}/specs"
-        files = sorted(it for it in os.listdir(folder) if it.endswith(".antt") and it != "Lib.antt") if os.path.isdir(folder) else []
+        files = files_in(folder)
         if not files:
             continue
         out.append(f"## {crate}\n")
