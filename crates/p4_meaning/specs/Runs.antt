@@ -23,4 +23,5 @@ pub mod Examples
 pub mod StatementExamples
 pub mod SwitchExamples
 pub mod CallExamples
+pub mod Shown
 pub mod ForwarderExample
