@@ -55,7 +55,7 @@ pub use numbered::Numbered;
 pub use operands::{
     Operand, Placed, constant_number, core_of, retyped, scalar_of, type_of, varies_at, varying_or,
 };
-pub use paths::{part_of, path_of, step_from, step_on, validity_of, value_type};
+pub use paths::{path_of, step_from, step_on, validity_of, value_type};
 pub use places::Places;
 pub use scopes::{Depths, Scope};
 pub use things::{Judged, Method, Thing};

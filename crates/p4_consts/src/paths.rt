@@ -3,12 +3,12 @@ ghost use Rattle.std.specs.Prelude.{◌≡◌, IfOk};
 ghost use Rattle.p4_program.specs.Trees.Expressions.{expression_of};
 ghost use Rattle.p4_rules.specs.Scopes.{value_type as value_type_by_rules};
 ghost use Rattle.p4_rules.specs.Things.{path_of as path_by_rules, step_on as step_on_by_rules};
-ghost use Rattle.p4_rules.specs.Things.{part_of as part_by_rules, validity_of as validity_by_rules};
+ghost use Rattle.p4_rules.specs.Things.{validity_of as validity_by_rules};
 ghost use Rattle.p4_rules.specs.Things.{step_from as step_from_by_rules};
 ghost use Rattle.p4_consts.specs.Operands.{operand_of};
 ghost use Rattle.p4_consts.specs.Scopes.{scope_in};
 
-use crate::operands::{Operand, scalar_of};
+use crate::operands::{Operand, core_of, scalar_of};
 use crate::scopes::Scope;
 use p4_program::typed::{Expression, Path, Root, Step, ValueType};
 use p4_rules::{Pass, SourceType};
@@ -55,43 +55,18 @@ pub fn step_on(step: Step, value_type: ValueType, path: Path) -> Result<Path, Al
     })
 }
 
-/// The part of a header or a struct that is no path by itself but one of two that a condition chooses.
-pub fn part_of(
-    alloc: Global,
-    step: Step,
-    value_type: ValueType,
-    whole: Expression,
-) -> Result<Expression, AllocError>
-    ensures { IfOk result (λ e. expression_of e
-        ≡ part_by_rules step value_type (expression_of whole)) }
-{
-    match whole {
-        Expression::Read(path) => Ok(Expression::Read(step_on(step, value_type, path)?)),
-        Expression::Choice(condition, one, other) => {
-            let one = part_of(alloc, step, value_type, Box::into_inner(one))?;
-            let other = part_of(alloc, step, value_type, Box::into_inner(other))?;
-            let one = Box::new(alloc, one)?;
-            let other = Box::new(alloc, other)?;
-            Ok(Expression::Choice(condition, one, other))
-        }
-        other => Ok(other),
-    }
-}
-
-/// The validity of such a header.
-pub fn validity_of(alloc: Global, header: Expression) -> Result<Expression, AllocError>
-    ensures { IfOk result (λ e. expression_of e ≡ validity_by_rules (expression_of header)) }
+/// Whether a header is valid. Of a path this reads nothing; any other header is evaluated as a whole.
+#[tactic(auto, using(crate::proofs::PathLaws::validity_of_value))]
+pub fn validity_of(alloc: Global, scope: &Scope, header: Operand) -> Result<Expression, AllocError>
+    ensures { (pass : Pass) → IfOk result (λ e. expression_of e
+        ≡ validity_by_rules (scope_in pass scope.now) (operand_of header)) }
 {
     match header {
-        Expression::Read(path) => Ok(Expression::IsValid(path)),
-        Expression::Choice(condition, one, other) => {
-            let one = validity_of(alloc, Box::into_inner(one))?;
-            let other = validity_of(alloc, Box::into_inner(other))?;
-            let one = Box::new(alloc, one)?;
-            let other = Box::new(alloc, other)?;
-            Ok(Expression::Choice(condition, one, other))
+        Operand::Stored(_, _, path, _) => Ok(Expression::IsValid(path)),
+        other => {
+            let whole = Box::new(alloc, core_of(alloc, scope, other)?)?;
+            Ok(Expression::ValidityOf(whole))
         }
-        other => Ok(other),
     }
 }
 
@@ -113,7 +88,7 @@ pub fn step_from(
             Ok(Operand::Stored(t, writable, path, at))
         }
         Operand::Computed(_, whole, at) => {
-            let part = part_of(alloc, step, value_type(scope, t), whole)?;
+            let part = Expression::PartOf(Box::new(alloc, whole)?, step);
             Ok(Operand::Computed(t, part, at))
         }
         other => Ok(other),

@@ -3,15 +3,17 @@ use Rattle.std.proofs.Common.{◌≡◌, ℕ, Bool, true, false, List, [], ◌�
 use Rattle.std.specs.Prelude.{⊤, if◌then◌else◌}
 use Rattle.p4_program.specs.declared.typed.expressions.Operator.{Operator}
 use Rattle.p4_program.specs.declared.typed.paths.Path.{Path}
-use Rattle.p4_program.specs.Syntax.Expressions.{CoreExpression, CoreOperations, Constant, Read, IsValid, Lookahead, Unary, Operations, Slice, Resize, Choice, Hit, NoOperations, Behind}
-use Rattle.p4_meaning.specs.Runs.Acts.{Environment, Act, After, Store, gives, stops, value_of, values_of, at_path}
+use Rattle.p4_program.specs.declared.typed.paths.Step.{Step}
+use Rattle.p4_program.specs.Syntax.Expressions.{CoreExpression, CoreOperations, Constant, Read, IsValid, Lookahead, Unary, Operations, Slice, Resize, Choice, PartOf, ValidityOf, Hit, NoOperations, Behind}
+use Rattle.p4_meaning.specs.Runs.Acts.{Environment, Act, After, Store, gives, stops, taking, value_of, values_of, at_path, Raised, stack_out_of_bounds}
 use Rattle.p4_meaning.specs.Runs.Acts as act
 use Rattle.p4_meaning.specs.Runs.Contents.{Content, Cell, HeaderOf, StackOf, StructOf, Contents, NoContents, Also, bits, is_true}
 use Rattle.p4_meaning.specs.Runs.Courses.{Course, Ends, Reads, Begins, Makes}
 use Rattle.p4_meaning.specs.Runs.Courses as course
-use Rattle.p4_meaning.specs.Runs.Expressions.{Reach, applies, evaluate, evaluate_behind, with_operand, is_decided, operated, EachTable, EachTableBehind, AppliesNoTable}
+use Rattle.p4_meaning.specs.Runs.Expressions.{Reach, applies, evaluate, evaluate_behind, part_read, with_operand, is_decided, operated, EachTable, EachTableBehind, AppliesNoTable}
 use Rattle.p4_meaning.specs.Runs.Packets.{bits_from, within_packet}
-use Rattle.p4_meaning.proofs.Along.{Along, Does, along_made, along_then, does_then, does_course, does_if}
+use Rattle.p4_meaning.specs.Runs.Paths.{part, is_last_of_none}
+use Rattle.p4_meaning.proofs.Along.{Along, Does, along_made, along_then, does_then, does_course, does_taking, does_if}
 use Rattle.p4_meaning.proofs.ListLaws.{Each}
 
 -- ---- the value of what stands at a place: no statement is begun
@@ -45,6 +47,8 @@ mutual
   each_table P h (Slice e high low) = each_table P h e
   each_table P h (Resize signed width e) = each_table P h e
   each_table P h (Choice c a b) = (each_table P h c, each_table P h a, each_table P h b)
+  each_table P h (PartOf e step) = each_table P h e
+  each_table P h (ValidityOf e) = each_table P h e
   each_table P h (Hit table) = h table
 
   each_table_behind : (P : ℕ → Type 0) → ((n : ℕ) → P n) → (os : CoreOperations) → EachTableBehind P os
@@ -62,6 +66,8 @@ mutual
   no_table P (Slice e high low) h = no_table P e h
   no_table P (Resize signed width e) h = no_table P e h
   no_table P (Choice c a b) h = (no_table P c h.0, no_table P a h.1, no_table P b h.2)
+  no_table P (PartOf e step) h = no_table P e h
+  no_table P (ValidityOf e) h = no_table P e h
   no_table P (Hit table) h = absurd h
 
   no_table_behind : (P : ℕ → Type 0) (os : CoreOperations) → EachTableBehind (λ table. ⊥) os → EachTableBehind P os
@@ -82,6 +88,11 @@ module _ (Mark : ℕ → Type 0) (R : Store → Store → Type 0) (stays : (s : 
   does_either true x y h k = h
   does_either false x y h k = k
 
+  does_part_read : (step : Step) (x : Content) → Here (part_read step x)
+  does_part_read step x =
+      does_either (is_last_of_none step x) (stops (Raised stack_out_of_bounds)) (taking (value_of (part step x))) stays
+      (does_taking Mark R stays trans (value_of (part step x)) (value_read Mark (part step x)))
+
   does_operand : (operator : Operator) (x : Content) (operand : Act Content) → Here operand → Here (with_operand operator x operand)
   does_operand operator x operand h =
       does_either (is_decided operator x) (gives x) (act.◌>>=◌ operand (λ y. gives (operated operator x y))) stays
@@ -101,6 +112,8 @@ module _ (Mark : ℕ → Type 0) (R : Store → Store → Type 0) (stays : (s : 
     does_evaluate Γ (Choice c a b) h =
         does_then Mark R stays trans (evaluate Γ c) (λ x. if is_true x then evaluate Γ a else evaluate Γ b) (does_evaluate Γ c h.0)
         (λ x. does_either (is_true x) (evaluate Γ a) (evaluate Γ b) (does_evaluate Γ a h.1) (does_evaluate Γ b h.2))
+    does_evaluate Γ (PartOf e step) h = does_then Mark R stays trans (evaluate Γ e) (part_read step) (does_evaluate Γ e h) (does_part_read step)
+    does_evaluate Γ (ValidityOf e) h = does_then Mark R stays trans (evaluate Γ e) _ (does_evaluate Γ e h) (λ x. stays)
     does_evaluate Γ (Hit table) h = does_then Mark R stays trans (applies Γ table) _ h (λ x. stays)
 
     pub does_evaluate_behind : (Γ : Reach) (os : CoreOperations) (x : Content) → EachTableBehind (λ n. Here (applies Γ n)) os → Here (evaluate_behind Γ os x)

@@ -4,7 +4,7 @@ use Rattle.p4_program.specs.BoundedInput.{opening}
 use Rattle.p4_meaning.specs.declared.outcome.Outcome.TheVariants.{Sent, Dropped}
 use Rattle.p4_meaning.specs.Runs.Examples.{program}
 use Rattle.p4_meaning.specs.Runs.Run.{RunOf}
-use Rattle.p4_meaning.specs.Runs.StatementExamples.{bounds, zero_bytes, gave, sends_3, copies_out, reads_twice, fixed_by_call, fixed_by_out, slice_assigned, marked_first, pushes, writes_void, applies_table, with_entry, no_constant_entry, exits_inside}
+use Rattle.p4_meaning.specs.Runs.StatementExamples.{bounds, zero_bytes, gave, sends_3, copies_out, reads_twice, fixed_by_call, fixed_by_out, slice_assigned, marked_first, pushes, writes_void, chooses_header, chooses_invalid, applies_table, with_entry, no_constant_entry, exits_inside}
 use Rattle.p4_meaning.proofs.RunLaws.{run_seen}
 
 -- ---- one assignment
@@ -47,6 +47,12 @@ pushed_as_it_is = run_seen (program pushes) bounds (opening bounds) (gave 8 0 �
 
 pub void_write : RunOf (program writes_void) bounds (opening bounds) (gave 8 2 ∷ gave 8 3 ∷ []) (Sent 1 zero_bytes) (1 ∷ 2 ∷ [])
 void_write = run_seen (program writes_void) bounds (opening bounds) (gave 8 2 ∷ gave 8 3 ∷ []) (Sent 1 zero_bytes) (1 ∷ 2 ∷ []) refl
+
+pub chosen_is_read_whole : RunOf (program chooses_header) bounds (opening bounds) (gave 8 7 ∷ gave 9 3 ∷ []) (Sent 3 zero_bytes) (1 ∷ 2 ∷ [])
+chosen_is_read_whole = run_seen (program chooses_header) bounds (opening bounds) (gave 8 7 ∷ gave 9 3 ∷ []) (Sent 3 zero_bytes) (1 ∷ 2 ∷ []) refl
+
+pub field_of_invalid : RunOf (program chooses_invalid) bounds (opening bounds) (gave 9 3 ∷ []) (Sent 3 zero_bytes) (2 ∷ [])
+field_of_invalid = run_seen (program chooses_invalid) bounds (opening bounds) (gave 9 3 ∷ []) (Sent 3 zero_bytes) (2 ∷ []) refl
 
 -- ---- tables
 

@@ -6,7 +6,7 @@ ghost use Rattle.p4_meaning.specs.Runs.Fills.{ones};
 ghost use Rattle.p4_meaning.specs.Runs.ForwarderExample.{ethernet_bytes, forwarded_bytes, forwards, ipv4_bytes, packet_at, with_routes};
 ghost use Rattle.p4_meaning.specs.Runs.Run.{RunOf, RunUnder};
 ghost use Rattle.p4_meaning.specs.Runs.Shown.{Passes, SendsAt, Shows};
-ghost use Rattle.p4_meaning.specs.Runs.StatementExamples.{applies_table, bounds, copies_out, exits_inside, fixed_by_call, fixed_by_out, gave, marked_first, no_constant_entry, port_table, pushes, reads_twice, sends_3, slice_assigned, with_entry, writes_void, zero_bytes};
+ghost use Rattle.p4_meaning.specs.Runs.StatementExamples.{applies_table, bounds, chooses_header, chooses_invalid, copies_out, exits_inside, fixed_by_call, fixed_by_out, gave, marked_first, no_constant_entry, port_table, pushes, reads_twice, sends_3, slice_assigned, with_entry, writes_void, zero_bytes};
 ghost use Rattle.p4_meaning.specs.Runs.SwitchExamples.{bytes, copies_stack, extracts_one, fills_stack, last_of_none, looks_nowhere, looks_past, loops, multicasts, other_port_in_egress, port_in_egress, selects_none, spec_in_egress, takes_some, verifies_no_error};
 ghost use Rattle.p4_meaning.specs.declared.outcome.Outcome.TheVariants.{Dropped, Overrun, Sent};
 ghost use Rattle.p4_program.specs.BoundedInput.{opening};
@@ -27,6 +27,9 @@ pub fn statements()
         Dropped (1 ∷ []) }
     ensures pushed_as_it_is { SendsAt pushes (gave 8 0 ∷ gave 8 1 ∷ []) 1 (1 ∷ 2 ∷ 3 ∷ []) }
     ensures void_write { SendsAt writes_void (gave 8 2 ∷ gave 8 3 ∷ []) 1 (1 ∷ 2 ∷ []) }
+    ensures chosen_is_read_whole { SendsAt chooses_header (gave 8 7 ∷ gave 9 3 ∷ []) 3
+        (1 ∷ 2 ∷ []) }
+    ensures field_of_invalid { SendsAt chooses_invalid (gave 9 3 ∷ []) 3 (2 ∷ []) }
     ensures default_after_miss { SendsAt applies_table [] 5 (2 ∷ 1 ∷ []) }
     ensures action_of_hit { Shows applies_table with_entry [] (Sent 7 zero_bytes) (2 ∷ 1 ∷ []) }
     ensures constant_entries_alone { Shows no_constant_entry with_entry [] (Sent 5 zero_bytes)

@@ -173,7 +173,7 @@ looked_at Γ t place passed = typing_fault place
 
 -- a call of a method, whose first token stands at this place
 abbrev pub method_call : Scope → Method → Span → List Judged → Checked Thing
-method_call Γ (IsValid x) place passed = no_arguments place passed (Value (Computed Boolean (validity_of (core_of Γ x)) place))
+method_call Γ (IsValid x) place passed = no_arguments place passed (Value (Computed Boolean (validity_of Γ x) place))
 method_call Γ (SetValid x) place passed =
     a_call (and_then (no_arguments place passed x) (λ y. changes Γ place y (λ path. work.SetValid path)))
 method_call Γ (SetInvalid x) place passed =

@@ -32,7 +32,7 @@ use Rattle.p4_rules.specs.declared.types.SourceType.TheVariants.{Bit, Signed, Bo
 use Rattle.p4_rules.specs.Types.{field_place}
 use Rattle.p4_rules.specs.declared.scopes.Function.TheVariants.{LeftOut}
 use Rattle.p4_rules.specs.Scopes.{Scope, is_in_parser, Meaning, IntegerOf, ConstantOf, VariableOf, ObjectOf, TableOf, InstanceOf, FunctionOf, value_type, listed}
-use Rattle.p4_rules.specs.Operands.{Operand, Whole, Fixed, Stored, Computed, Placed, type_of, varying_or, constant_number}
+use Rattle.p4_rules.specs.Operands.{Operand, Whole, Fixed, Stored, Computed, Placed, type_of, varying_or, core_of, constant_number}
 use Rattle.p4_rules.specs.Casts.{typing_fault, constant_fault}
 
 -- what may be called behind a `.`
@@ -128,23 +128,16 @@ thing_of Γ place m = Right (Named m)
 abbrev pub step_on : Step → ValueType → Path → Path
 step_on s t path = record { root = path.root; steps = path.steps ++ s ∷ []; value_type = t }
 
--- The part of a header or a struct that is no path by itself but one of two that a condition chooses. Other expressions have no
--- parts.
-abbrev pub part_of : Step → ValueType → CoreExpression → CoreExpression
-part_of s t (core.Read path) = core.Read (step_on s t path)
-part_of s t (core.Choice c a b) = core.Choice c (part_of s t a) (part_of s t b)
-part_of s t e = e
-
+-- a part of what a path leads to has a path; a part of any other value is read from the whole value
 abbrev pub step_from : Scope → Step → SourceType → Operand → Operand
 step_from Γ s t (Stored u writable path at) = Stored t writable (step_on s (value_type Γ t) path) at
-step_from Γ s t (Computed u e at) = Computed t (part_of s (value_type Γ t) e) at
+step_from Γ s t (Computed u e at) = Computed t (core.PartOf e s) at
 step_from Γ s t x = x
 
--- the validity of such a header
-abbrev pub validity_of : CoreExpression → CoreExpression
-validity_of (core.Read path) = core.IsValid path
-validity_of (core.Choice c a b) = core.Choice c (validity_of a) (validity_of b)
-validity_of e = e
+-- whether a header is valid, which of a path reads nothing
+abbrev pub validity_of : Scope → Operand → CoreExpression
+validity_of Γ (Stored t writable path at) = core.IsValid path
+validity_of Γ x = core.ValidityOf (core_of Γ x)
 
 abbrev pub numbered_field : Option ℕ → List FieldOf → Option (ℕ × SourceType)
 numbered_field None fields = None

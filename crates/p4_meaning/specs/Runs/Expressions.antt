@@ -8,12 +8,14 @@ use Rattle.p4_program.specs.declared.typed.callables.Parameter.{Parameter}
 use Rattle.p4_program.specs.declared.typed.expressions.Operator.{Operator}
 use Rattle.p4_program.specs.declared.typed.expressions.Operator.TheVariants.{Plain, NotEqual, GreaterU, GreaterS, AtLeastU, AtLeastS, LogicalAnd, LogicalOr}
 use Rattle.p4_program.specs.declared.typed.paths.Path.{Path}
+use Rattle.p4_program.specs.declared.typed.paths.Step.{Step}
 use Rattle.p4_program.specs.declared.typed.types.ValueType.{ValueType}
-use Rattle.p4_program.specs.Syntax.Expressions.{CoreExpression, CoreOperations, Constant, Read, IsValid, Lookahead, Unary, Operations, Slice, Resize, Choice, Hit, NoOperations, Behind}
-use Rattle.p4_meaning.specs.Runs.Acts.{Environment, Act, Store, gives, told, at_path, ◌>>=◌, ◌>>◌}
+use Rattle.p4_program.specs.Syntax.Expressions.{CoreExpression, CoreOperations, Constant, Read, IsValid, Lookahead, Unary, Operations, Slice, Resize, Choice, PartOf, ValidityOf, Hit, NoOperations, Behind}
+use Rattle.p4_meaning.specs.Runs.Acts.{Environment, Act, Store, gives, stops, taking, told, at_path, value_of, Raised, stack_out_of_bounds, ◌>>=◌, ◌>>◌}
 use Rattle.p4_meaning.specs.Runs.Acts as act
 use Rattle.p4_meaning.specs.Runs.Contents.{Content, Cell, HeaderOf, bits, truth, number_in, bits_in, is_true}
 use Rattle.p4_meaning.specs.Runs.Packets.{looks_ahead}
+use Rattle.p4_meaning.specs.Runs.Paths.{part, is_last_of_none}
 
 -- what was called: the types of its frame, and what its body does
 pub record Callee : Type 0 where
@@ -83,6 +85,11 @@ abbrev pub validity : Content → Bool
 validity (HeaderOf valid fields) = valid
 validity _ = false
 
+-- A part of a value that was read whole: a field of an invalid header is unspecified here too, and no element of the value of a
+-- stack was extracted.
+abbrev pub part_read : Step → Content → Act Content
+part_read step x = if is_last_of_none step x then stops (Raised stack_out_of_bounds) else taking (value_of (part step x))
+
 -- ---- evaluation
 
 abbrev mutual
@@ -98,6 +105,8 @@ abbrev mutual
       evaluate Γ e >>= λ x. gives (bits width (extend_value signed (bits_in x) (number_in x) width))
   -- "Conditional operator": the other side is not evaluated
   evaluate Γ (Choice c a b) = evaluate Γ c >>= λ x. if is_true x then evaluate Γ a else evaluate Γ b
+  evaluate Γ (PartOf e step) = evaluate Γ e >>= λ x. part_read step x
+  evaluate Γ (ValidityOf e) = evaluate Γ e >>= λ x. gives (truth (validity x))
   evaluate Γ (Hit table) = applies Γ table >>= λ applied. gives (truth applied.hit)
 
   -- operators of one level behind a value
@@ -122,6 +131,8 @@ abbrev mutual
   paths_in (Slice e high low) = paths_in e
   paths_in (Resize signed width e) = paths_in e
   paths_in (Choice c a b) = paths_in c ++ paths_in a ++ paths_in b
+  paths_in (PartOf e step) = paths_in e
+  paths_in (ValidityOf e) = paths_in e
   paths_in (Hit table) = []
 
   pub paths_behind : CoreOperations → List Path
@@ -146,6 +157,8 @@ abbrev mutual
   EachTable P (Slice e high low) = EachTable P e
   EachTable P (Resize signed width e) = EachTable P e
   EachTable P (Choice c a b) = EachTable P c × EachTable P a × EachTable P b
+  EachTable P (PartOf e step) = EachTable P e
+  EachTable P (ValidityOf e) = EachTable P e
   EachTable P (Hit table) = P table
 
   pub EachTableBehind : (ℕ → Type 0) → CoreOperations → Type 0

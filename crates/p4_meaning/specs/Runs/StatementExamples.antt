@@ -7,6 +7,7 @@ use Rattle.p4_program.specs.declared.typed.callables.Direction.TheVariants as di
 use Rattle.p4_program.specs.declared.typed.expressions.Operator.TheVariants.{Plain, NotEqual}
 use Rattle.p4_program.specs.declared.typed.input.Entry.{Entry}
 use Rattle.p4_program.specs.declared.typed.input.Input.{Input}
+use Rattle.p4_program.specs.declared.typed.paths.Path.{Path}
 use Rattle.p4_program.specs.declared.typed.paths.Step.TheVariants.{Field, Element}
 use Rattle.p4_program.specs.declared.typed.tables.MatchKind.TheVariants as kind
 use Rattle.p4_program.specs.declared.typed.tables.Pattern.TheVariants.{Exact}
@@ -14,7 +15,7 @@ use Rattle.p4_program.specs.declared.typed.types.Scalar.TheVariants.{Sized}
 use Rattle.p4_program.specs.declared.typed.types.ValueType.TheVariants.{Header, Stack, Struct}
 use Rattle.p4_program.specs.BoundedInput.{opening}
 use Rattle.p4_program.specs.Syntax.Callables.{CoreAction, CoreTable}
-use Rattle.p4_program.specs.Syntax.Expressions.{CoreExpression, Read, Hit}
+use Rattle.p4_program.specs.Syntax.Expressions.{CoreExpression, Read, IsValid, Choice, PartOf, Hit}
 use Rattle.p4_program.specs.Syntax.Statements.{CoreStatement, CoreStatements, NoStatements, Assign, AssignSlice, Exit, CallAction, ApplyTable, SetValid, PushFront, MarkToDrop, If, In, InOut, Out}
 use Rattle.p4_program.specs.WellFormed.Types.{bits}
 use Rattle.p4_meaning.specs.Runs.Courses as course
@@ -127,6 +128,28 @@ pushes = with_stack (row (statement 1 (SetValid (field 0 (Field 0 ∷ Element 0 
 abbrev pub writes_void : Parts
 writes_void = with_stack (row (statement 1 (Assign (field 0 (Field 0 ∷ Element 1 ∷ Field 0 ∷ []) (bits 8)) (number 8 7))
     ∷ when element_differs (sends 2 (number 9 1) ∷ []) ∷ []))
+
+-- a header of two fields, and another
+abbrev pub with_headers : CoreStatements → Parts
+with_headers body = record (with_ingress body) {
+  header_types = record { widths = 8 ∷ 9 ∷ [] } ∷ [];
+  header_fields = Header 0 ∷ Header 0 ∷ [];
+}
+
+-- `h.n` for the header of this number
+abbrev pub header_at : ℕ → Path
+header_at n = field 0 (Field n ∷ []) (Header 0)
+
+abbrev pub chosen_header : CoreExpression
+chosen_header = Choice (IsValid (header_at 0)) (Read (header_at 0)) (Read (header_at 1))
+
+-- `h.a.setValid(); s.egress_spec = (h.a.isValid() ? h.a : h.b).w;`: the header that is chosen is read whole
+abbrev pub chooses_header : Parts
+chooses_header = with_headers (row (statement 1 (SetValid (header_at 0)) ∷ sends 2 (PartOf chosen_header (Field 1)) ∷ []))
+
+-- the same where neither is valid: the field of an invalid header is unspecified
+abbrev pub chooses_invalid : Parts
+chooses_invalid = with_headers (row (sends 2 (PartOf chosen_header (Field 1)) ∷ []))
 
 -- ---- tables
 

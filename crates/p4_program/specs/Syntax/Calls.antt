@@ -1,7 +1,7 @@
 -- The calls that stand in a body: of actions and of instances of controls, and applications of tables.
 use Rattle.std.specs.Prelude.{ℕ, List, [], ◌∷◌, ◌++◌, flat_map, Option, Some, None}
 use Rattle.p4_program.specs.Syntax.Callables.{CoreTable, CoreCallable, OfAction, OfParser, OfControl}
-use Rattle.p4_program.specs.Syntax.Expressions.{CoreExpression, CoreOperations, Constant, Read, IsValid, Lookahead, Unary, Operations, Slice, Resize, Choice, Hit, NoOperations, Behind}
+use Rattle.p4_program.specs.Syntax.Expressions.{CoreExpression, CoreOperations, Constant, Read, IsValid, Lookahead, Unary, Operations, Slice, Resize, Choice, PartOf, ValidityOf, Hit, NoOperations, Behind}
 use Rattle.p4_program.specs.Syntax.Statements.{CoreArgument, In, Out, InOut, CoreWork, CoreStatement, CoreStatements, CoreCases, Numbered, Declare, If, Switch, NoStatements, Then, NoCases, Case}
 use Rattle.p4_program.specs.Syntax.Statements as work
 
@@ -25,6 +25,8 @@ abbrev mutual
   calls_in_expression (Slice e high low) = calls_in_expression e
   calls_in_expression (Resize signed width e) = calls_in_expression e
   calls_in_expression (Choice c a b) = calls_in_expression c ++ calls_in_expression a ++ calls_in_expression b
+  calls_in_expression (PartOf e step) = calls_in_expression e
+  calls_in_expression (ValidityOf e) = calls_in_expression e
   calls_in_expression (Hit table) = ToTable table ∷ []
 
   pub calls_in_operations : CoreOperations → List CoreCall

@@ -3,6 +3,7 @@ use Rattle.std.specs.Prelude.{ℕ, Bool}
 use Rattle.bits_core.specs.declared.operator.Op.{Op}
 use Rattle.p4_program.specs.declared.typed.expressions.Operator.{Operator}
 use Rattle.p4_program.specs.declared.typed.paths.Path.{Path}
+use Rattle.p4_program.specs.declared.typed.paths.Step.{Step}
 use Rattle.p4_program.specs.declared.typed.types.Scalar.{Scalar}
 
 mutual
@@ -22,6 +23,10 @@ mutual
     Resize : (signed : Bool) → (width : ℕ) → CoreExpression → CoreExpression
     -- "Conditional operator": the condition, and the values where it holds and where it does not
     Choice : (condition yes no : CoreExpression) → CoreExpression
+    -- "Operations on struct types", "Operations on headers", "Operations on header stacks": a part of a value to which no path
+    -- leads, and whether such a header is valid
+    PartOf : CoreExpression → Step → CoreExpression
+    ValidityOf : CoreExpression → CoreExpression
     -- "Match-action unit invocation": whether the application of the table of this number of the control is a hit
     Hit : (table : ℕ) → CoreExpression
 

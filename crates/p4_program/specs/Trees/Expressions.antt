@@ -16,6 +16,8 @@ abbrev mutual
   expression_of (tree.Slice' p e high low) = core.Slice (expression_of e) high low
   expression_of (tree.Resize' signed width p e) = core.Resize signed width (expression_of e)
   expression_of (tree.Choice' p c q a r b) = core.Choice (expression_of c) (expression_of a) (expression_of b)
+  expression_of (tree.PartOf' p e step) = core.PartOf (expression_of e) step
+  expression_of (tree.ValidityOf' p e) = core.ValidityOf (expression_of e)
   expression_of (tree.Hit table) = core.Hit table
 
   pub operations_of : {m : _} → Row_of-Operation m → CoreOperations

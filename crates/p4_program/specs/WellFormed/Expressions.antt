@@ -1,5 +1,5 @@
 -- Expressions that fit where they stand, with their types (P4-16, "Expressions").
-use Rattle.std.specs.Prelude.{ℕ, ◌≡◌, ◌≢◌, ◌≤◌, ◌<◌, ◌+◌, ◌-◌, ◌^◌, length}
+use Rattle.std.specs.Prelude.{ℕ, ◌≡◌, ◌≢◌, ◌≤◌, ◌<◌, ◌+◌, ◌-◌, ◌^◌, length, Option, Some}
 use Rattle.bits_core.specs.declared.operator.Op.{Op}
 use Rattle.bits_core.specs.declared.operator.Op.TheVariants as op
 use Rattle.bits_core.specs.declared.operator.OpShape.TheVariants.{One}
@@ -7,12 +7,13 @@ use Rattle.bits_core.specs.Operator.{shape_of, WidthsFit, result_width}
 use Rattle.p4_program.specs.declared.typed.expressions.Operator.{Operator}
 use Rattle.p4_program.specs.declared.typed.expressions.Operator.TheVariants.{Plain, NotEqual, GreaterU, GreaterS, AtLeastU, AtLeastS, LogicalAnd, LogicalOr}
 use Rattle.p4_program.specs.declared.typed.paths.Path.{Path}
+use Rattle.p4_program.specs.declared.typed.paths.Step.{Step}
 use Rattle.p4_program.specs.declared.typed.types.Scalar.{Scalar}
 use Rattle.p4_program.specs.declared.typed.types.Scalar.TheVariants.{Sized, Members}
 use Rattle.p4_program.specs.declared.typed.types.ValueType.{ValueType}
 use Rattle.p4_program.specs.declared.typed.types.ValueType.TheVariants.{Simple, Header}
-use Rattle.p4_program.specs.Syntax.Expressions.{CoreExpression, CoreOperations, Constant, Read, IsValid, Lookahead, Unary, Operations, Slice, Resize, Choice, Hit, NoOperations, Behind}
-use Rattle.p4_program.specs.WellFormed.Paths.{Scope, ParserBody, ControlBody, Readable}
+use Rattle.p4_program.specs.Syntax.Expressions.{CoreExpression, CoreOperations, Constant, Read, IsValid, Lookahead, Unary, Operations, Slice, Resize, Choice, PartOf, ValidityOf, Hit, NoOperations, Behind}
+use Rattle.p4_program.specs.WellFormed.Paths.{Scope, ParserBody, ControlBody, Readable, step_type, StepAllowed}
 use Rattle.p4_program.specs.WellFormed.Types.{WidthFits, ScalarFits, bits, boolean}
 
 -- a number of bits, or the number of a member
@@ -64,6 +65,18 @@ pub record ChoiceHas (Condition Yes No : ValueType → Type 0) (t : ValueType) :
   pub condition : Condition boolean
   pub first : Yes t
   pub second : No t
+
+-- a step from the value of an expression
+pub record PartHas (s : Scope) (Whole : ValueType → Type 0) (step : Step) (t : ValueType) : Type 0 where
+  pub whole_type : ValueType
+  pub whole : Whole whole_type
+  pub leads : step_type s.program step whole_type ≡ Some t
+  pub step_allowed : StepAllowed s.kind step
+
+pub record ValidityHas (Whole : ValueType → Type 0) (t : ValueType) : Type 0 where
+  pub header : ℕ
+  pub whole : Whole (Header header)
+  pub type_is : t ≡ boolean
 
 pub record HitHas (s : Scope) (table : ℕ) (t : ValueType) : Type 0 where
   pub in_control : s.kind ≡ ControlBody
@@ -138,6 +151,8 @@ abbrev mutual
   Has s (Slice e high low) t = SliceHas (Has s e) high low t
   Has s (Resize signed width e) t = ResizeHas (Has s e) width t
   Has s (Choice c a b) t = ChoiceHas (Has s c) (Has s a) (Has s b) t
+  Has s (PartOf e step) t = PartHas s (Has s e) step t
+  Has s (ValidityOf e) t = ValidityHas (Has s e) t
   Has s (Hit table) t = HitHas s table t
 
   -- behind a value of the first type the operations fit and give the second

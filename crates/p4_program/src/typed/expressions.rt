@@ -1,6 +1,6 @@
 //! Expressions.
 
-use crate::typed::paths::Path;
+use crate::typed::paths::{Path, Step};
 use crate::typed::types::Scalar;
 use bits_core::Op;
 
@@ -41,6 +41,10 @@ pub enum Expression {
     Resize(bool, u8, Box<Expression>),
     /// The condition, and the values where it holds and where it does not.
     Choice(Box<Expression>, Box<Expression>, Box<Expression>),
+    /// The part, one step further, of a value to which no path leads.
+    PartOf(Box<Expression>, Step),
+    /// `isValid()` of a header to which no path leads.
+    ValidityOf(Box<Expression>),
     /// `apply().hit` of the table of this number of the control.
     Hit(u32),
 }

@@ -34,6 +34,12 @@ returns-clause-pushed_as_it_is c = example.pushed_as_it_is
 pub returns-clause-void_write : goal.returns-clause-void_write
 returns-clause-void_write c = example.void_write
 
+pub returns-clause-chosen_is_read_whole : goal.returns-clause-chosen_is_read_whole
+returns-clause-chosen_is_read_whole c = example.chosen_is_read_whole
+
+pub returns-clause-field_of_invalid : goal.returns-clause-field_of_invalid
+returns-clause-field_of_invalid c = example.field_of_invalid
+
 pub returns-clause-default_after_miss : goal.returns-clause-default_after_miss
 returns-clause-default_after_miss c = example.default_after_miss
 
