@@ -4,7 +4,8 @@ use Rattle.std.specs.Prelude.{if◌then◌else◌, ⊤}
 use Rattle.p4_program.specs.declared.typed.paths.Path.{Path}
 use Rattle.p4_meaning.specs.Runs.Acts.{Act, After, Store, Stop, Result, Gives, Stops, gives, stops, attempt, taking, begun, told, becomes, with_lasts, some_last_of_none}
 use Rattle.p4_meaning.specs.Runs.Acts as act
-use Rattle.p4_meaning.specs.Runs.Courses.{Read, IsAmong, Course, Ends, Reads, Begins, Makes}
+use Rattle.p4_program.specs.Unspecified.{IsAmong}
+use Rattle.p4_meaning.specs.Runs.Courses.{Read, Course, Ends, Reads, Begins, Makes}
 use Rattle.p4_meaning.specs.Runs.Courses as course
 use Rattle.p4_meaning.proofs.ListLaws.{Each}
 

@@ -3,7 +3,7 @@ use Rattle.std.proofs.Common.{[], ◌∷◌, refl}
 use Rattle.p4_program.specs.declared.typed.tables.MatchKind.TheVariants as kind
 use Rattle.p4_program.specs.BoundedInput.{opening}
 use Rattle.p4_program.specs.Syntax.Statements.{Return, Exit}
-use Rattle.p4_meaning.specs.declared.outcome.Outcome.TheVariants.{Sent, Overrun}
+use Rattle.p4_program.specs.declared.outcome.Outcome.TheVariants.{Sent, Overrun}
 use Rattle.p4_meaning.specs.Runs.Examples.{program}
 use Rattle.p4_meaning.specs.Runs.Fills.{ones}
 use Rattle.p4_meaning.specs.Runs.Run.{RunOf, RunUnder}

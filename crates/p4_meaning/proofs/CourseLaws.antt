@@ -7,8 +7,9 @@ use Rattle.std.proofs.lemmas.Bool.{eq-eqb, lt-ltb, le-leb, ltb-true, leb-true, e
 use Rattle.std.proofs.lemmas.Option.{none-some, same_Some}
 use Rattle.p4_program.specs.declared.typed.types.Scalar.{Scalar}
 use Rattle.p4_program.specs.declared.typed.types.Scalar.TheVariants.{Sized, Members}
-use Rattle.p4_meaning.specs.Runs.Courses.{Read, IsAmong, Course, Ends, Reads, Begins, ◌>>=◌, Makes, Made, same_scalar, is_among, is_read_of, with_mark, made}
-use Rattle.p4_meaning.specs.Runs.Fills.{words_for, cut_for, filled_value, drawn, IsFilled}
+use Rattle.p4_program.specs.Unspecified.{IsAmong, clipped}
+use Rattle.p4_meaning.specs.Runs.Courses.{Read, Course, Ends, Reads, Begins, ◌>>=◌, Makes, Made, same_scalar, is_among, is_read_of, with_mark, made}
+use Rattle.p4_meaning.specs.Runs.Fills.{words_for, filled_value, drawn, IsFilled}
 
 -- ---- one end for each list of reads
 
@@ -41,12 +42,12 @@ one_end (Begins number more) reads m n a b f g =
 -- ---- under a fill
 
 -- what a fill gives is one of the values
-among_cut : (scalar : Scalar) (number : ℕ) → IsAmong scalar (cut_for scalar number)
-among_cut (Sized width) number = mod-lt number (pow_pos width)
-among_cut (Members count) number = min-le_right _ (count - 1)
+among_clipped : (scalar : Scalar) (number : ℕ) → IsAmong scalar (clipped scalar number)
+among_clipped (Sized width) number = mod-lt number (pow_pos width)
+among_clipped (Members count) number = min-le_right _ (count - 1)
 
 pub filled_among : (words : ℕ → ℕ) (first : ℕ) (scalar : Scalar) → IsAmong scalar (filled_value words first scalar)
-filled_among words first scalar = among_cut scalar (drawn words first (words_for scalar))
+filled_among words first scalar = among_clipped scalar (drawn words first (words_for scalar))
 
 -- a course under a fill
 pub record Filled {A : Type 0} (c : Course A) (words : ℕ → ℕ) (first : ℕ) : Type 0 where

@@ -1,6 +1,6 @@
 -- Runs of a forwarder of IPv4 packets, by evaluation.
 use Rattle.std.proofs.Common.{[], ◌∷◌, ◌++◌, replicate, refl}
-use Rattle.p4_meaning.specs.declared.outcome.Outcome.TheVariants.{Sent, Dropped}
+use Rattle.p4_program.specs.declared.outcome.Outcome.TheVariants.{Sent, Dropped}
 use Rattle.p4_meaning.specs.Runs.Examples.{program}
 use Rattle.p4_meaning.specs.Runs.ForwarderExample.{forwards, packet_at, ethernet_bytes, ipv4_bytes, forwarded_bytes, with_routes}
 use Rattle.p4_meaning.specs.Runs.Run.{RunOf}

@@ -16,7 +16,7 @@ use Rattle.p4_meaning.specs.Runs.Contents.{Content, bits}
 use Rattle.p4_meaning.specs.Runs.Expressions.{Reach, Callee, Applied, applies, found_table, evaluate, evaluate_all}
 use Rattle.p4_meaning.specs.Runs.Packets.{within_packet}
 use Rattle.p4_meaning.specs.Runs.Tables.{table_applies, runs_for, with_tables, action_of, place_of}
-use Rattle.p4_meaning.specs.Runs.Winners.{Candidate}
+use Rattle.p4_program.specs.Winners.{Candidate}
 use Rattle.p4_meaning.proofs.Along.{Does, does_then, does_both, does_attempt, does_taking, does_with_lasts}
 use Rattle.p4_meaning.proofs.ExpressionLaws.{value_read, each_table, does_read, does_within, does_either, does_evaluate}
 use Rattle.p4_meaning.proofs.ListLaws.{Each, each_both}

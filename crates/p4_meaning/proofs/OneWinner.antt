@@ -17,7 +17,7 @@ use Rattle.p4_program.specs.Syntax.Programs.{CoreProgram}
 use Rattle.p4_program.specs.WellFormed.Callables.{TableFits, ConstantEntryFits, table_scope}
 use Rattle.p4_program.specs.WellFormed.Programs.{WellFormed}
 use Rattle.p4_meaning.specs.Runs.Tables.{of_entry, of_constant, of_constants, candidates_in}
-use Rattle.p4_meaning.specs.Runs.Winners.{Candidate, all_match, beats, prefix_length, Wins}
+use Rattle.p4_program.specs.Winners.{Candidate, all_match, beats, prefix_length, Wins}
 use Rattle.p4_meaning.proofs.PatternLaws.{same_patterns, prefix_keys}
 use Rattle.p4_meaning.proofs.ListLaws.{Each, Pairs, each_all, pairs_all, each_in, each_by, first_or_later, none_in}
 

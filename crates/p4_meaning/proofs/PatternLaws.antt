@@ -15,7 +15,7 @@ use Rattle.p4_program.specs.Entries.{PrefixFits, PatternFits, PatternsFit}
 use Rattle.p4_program.specs.Syntax.Callables.{CoreKey}
 use Rattle.p4_program.specs.Syntax.Lookup.{is_ternary}
 use Rattle.p4_program.specs.WellFormed.Callables.{is_prefix_kind}
-use Rattle.p4_meaning.specs.Runs.Winners.{matches, all_match, prefix_in, prefix_length}
+use Rattle.p4_program.specs.Winners.{matches, all_match, prefix_in, prefix_length}
 use Rattle.p4_meaning.proofs.ListLaws.{both_hold, neither}
 
 -- ---- one pattern

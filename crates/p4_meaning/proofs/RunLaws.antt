@@ -5,8 +5,8 @@ use Rattle.std.proofs.lemmas.Option.{none-some, same_Some}
 use Rattle.p4_program.specs.declared.bounds.Bounds.{Bounds}
 use Rattle.p4_program.specs.declared.typed.input.Input.{Input}
 use Rattle.p4_program.specs.Syntax.Programs.{CoreProgram}
-use Rattle.p4_meaning.specs.declared.outcome.Outcome.{Outcome}
-use Rattle.p4_meaning.specs.declared.outcome.Outcome.TheVariants.{Overrun}
+use Rattle.p4_program.specs.declared.outcome.Outcome.{Outcome}
+use Rattle.p4_program.specs.declared.outcome.Outcome.TheVariants.{Overrun}
 use Rattle.p4_meaning.specs.Runs.Courses.{Read, Made, made}
 use Rattle.p4_meaning.specs.Runs.Run.{RunOf, Run, RunUnder, environment, marks_of, seen_in, seen}
 use Rattle.p4_meaning.specs.Runs.Switch.{Finished, runs_switch, unspecified_metadata}

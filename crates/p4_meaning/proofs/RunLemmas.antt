@@ -15,8 +15,8 @@ use Rattle.p4_program.specs.declared.program.StatementKind.TheVariants.{AssignEg
 use Rattle.p4_program.specs.declared.v1model.Block.{Block}
 use Rattle.p4_program.specs.declared.v1model.Block.TheVariants.{Verify, Ingress, Egress, Compute, Deparser}
 use Rattle.p4_program.specs.declared.v1model.TheConstants.{DROP_PORT}
-use Rattle.p4_meaning.specs.declared.outcome.Outcome.{Outcome}
-use Rattle.p4_meaning.specs.declared.outcome.Outcome.TheVariants.{Dropped}
+use Rattle.p4_program.specs.declared.outcome.Outcome.{Outcome}
+use Rattle.p4_program.specs.declared.outcome.Outcome.TheVariants.{Dropped}
 use Rattle.p4_meaning.specs.Execution.{Next, Becomes}
 use Rattle.p4_meaning.specs.Parser.{ParsesWithin, Ended}
 use Rattle.p4_meaning.specs.Reads.{Read}

@@ -12,8 +12,8 @@ use Rattle.p4_program.specs.Syntax.Lookup.{as_control, control_at}
 use Rattle.p4_program.specs.Syntax.Numbering.{numbered_in_all, numbered_in_state, numbered_in_callable, statements_numbered}
 use Rattle.p4_program.specs.Syntax.Programs.{CoreProgram}
 use Rattle.p4_program.specs.WellFormed.Programs.{as_parser, parser_at}
-use Rattle.p4_meaning.specs.declared.outcome.Outcome.{Outcome}
-use Rattle.p4_meaning.specs.declared.outcome.Outcome.TheVariants.{Sent, Dropped, Overrun}
+use Rattle.p4_program.specs.declared.outcome.Outcome.{Outcome}
+use Rattle.p4_program.specs.declared.outcome.Outcome.TheVariants.{Sent, Dropped, Overrun}
 use Rattle.p4_meaning.specs.Runs.Acts.{Environment, Act, After, value_of}
 use Rattle.p4_meaning.specs.Runs.Acts as act
 use Rattle.p4_meaning.specs.Runs.Bodies.{reach_of, action_body, actions_behind, actions_of, reach_in, control_body, controls_behind, controls_of}
@@ -30,7 +30,7 @@ use Rattle.p4_meaning.specs.Runs.Metadata.{egress_spec, mcast_grp, parser_error,
 use Rattle.p4_meaning.specs.Runs.Paths.{part}
 use Rattle.p4_program.specs.declared.typed.paths.Step.TheVariants.{Field}
 use Rattle.p4_program.specs.declared.v1model.TheConstants.{DROP_PORT}
-use Rattle.p4_meaning.specs.Runs.Winners.{all_match}
+use Rattle.p4_program.specs.Winners.{all_match}
 use Rattle.p4_meaning.proofs.Along.{Along, along_made, along_then}
 use Rattle.p4_meaning.proofs.ExpressionLaws.{value_read}
 use Rattle.p4_meaning.proofs.MarkLaws.{Marked, MarkedCallee, MarkedReach, NumberMarked, then_marked, both_marked, lasts_marked, evaluate_all_marked, callee_marked, tables_marked}

@@ -1,7 +1,7 @@
 -- Runs of small programs, by evaluation: statements, calls, headers, tables.
 use Rattle.std.proofs.Common.{[], ◌∷◌, refl}
 use Rattle.p4_program.specs.BoundedInput.{opening}
-use Rattle.p4_meaning.specs.declared.outcome.Outcome.TheVariants.{Sent, Dropped}
+use Rattle.p4_program.specs.declared.outcome.Outcome.TheVariants.{Sent, Dropped}
 use Rattle.p4_meaning.specs.Runs.Examples.{program}
 use Rattle.p4_meaning.specs.Runs.Run.{RunOf}
 use Rattle.p4_meaning.specs.Runs.StatementExamples.{bounds, zero_bytes, gave, sends_3, copies_out, reads_twice, fixed_by_call, fixed_by_out, slice_assigned, marked_first, pushes, writes_void, chooses_header, chooses_invalid, applies_table, with_entry, no_constant_entry, exits_inside}

@@ -1,6 +1,6 @@
 -- Runs of small programs, by evaluation: the parser, its errors, the switch, checksums.
 use Rattle.std.proofs.Common.{[], ◌∷◌, refl}
-use Rattle.p4_meaning.specs.declared.outcome.Outcome.TheVariants.{Sent, Dropped, Overrun}
+use Rattle.p4_program.specs.declared.outcome.Outcome.TheVariants.{Sent, Dropped, Overrun}
 use Rattle.p4_meaning.specs.Runs.Examples.{program}
 use Rattle.p4_meaning.specs.Runs.Run.{RunOf}
 use Rattle.p4_meaning.specs.Runs.StatementExamples.{bounds}

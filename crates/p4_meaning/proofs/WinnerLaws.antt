@@ -4,7 +4,7 @@ use Rattle.std.specs.Prelude.{cond, Contains, find}
 use Rattle.std.specs.List.{list_all}
 use Rattle.std.proofs.lemmas.Bool.{ltb-true, lt-ltb, le-ltb, false≢true}
 use Rattle.std.proofs.lemmas.Option.{none-some, same_Some}
-use Rattle.p4_meaning.specs.Runs.Winners.{Candidate, all_match, beats, prefix_length, Wins, Winner, wins, winner}
+use Rattle.p4_program.specs.Winners.{Candidate, all_match, beats, prefix_length, Wins, Winner, wins, winner}
 use Rattle.p4_meaning.proofs.ListLaws.{decided, both_hold, hold_both, first_in, later_in, first_or_later, none_in}
 
 -- ---- Booleans and lists

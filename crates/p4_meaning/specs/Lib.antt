@@ -2,7 +2,6 @@ pub mod Chosen
 pub mod Execution
 pub mod Expected
 pub mod Good
-pub mod Outcome
 pub mod Parser
 pub mod Reads
 pub mod Run

@@ -3,7 +3,7 @@ use Rattle.std.specs.Prelude.{ℕ, List}
 use Rattle.p4_program.specs.declared.bounds.Bounds.{Bounds}
 use Rattle.p4_program.specs.declared.input.Input.{Input}
 use Rattle.p4_program.specs.declared.program.Program.{Program}
-use Rattle.p4_meaning.specs.declared.outcome.Outcome.{Outcome}
+use Rattle.p4_program.specs.declared.outcome.Outcome.{Outcome}
 use Rattle.p4_meaning.specs.Reads.{Read}
 use Rattle.p4_meaning.specs.V1modelRun.{SwitchRuns}
 

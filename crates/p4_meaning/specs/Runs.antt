@@ -5,7 +5,6 @@ pub mod Acts
 pub mod Packets
 pub mod Expressions
 pub mod Calls
-pub mod Winners
 pub mod Tables
 pub mod Checksums
 pub mod Metadata

@@ -5,8 +5,8 @@ use Rattle.p4_program.specs.Blocks.{statements_of}
 use Rattle.p4_program.specs.declared.v1model.Block.{Block}
 use Rattle.p4_program.specs.declared.v1model.Block.TheVariants.{Verify, Ingress, Egress, Compute, Deparser}
 use Rattle.p4_program.specs.declared.v1model.TheConstants.{DROP_PORT}
-use Rattle.p4_meaning.specs.declared.outcome.Outcome.{Outcome}
-use Rattle.p4_meaning.specs.declared.outcome.Outcome.TheVariants.{Sent, Dropped, Overrun}
+use Rattle.p4_program.specs.declared.outcome.Outcome.{Outcome}
+use Rattle.p4_program.specs.declared.outcome.Outcome.TheVariants.{Sent, Dropped, Overrun}
 use Rattle.p4_meaning.specs.Execution.{End}
 use Rattle.p4_meaning.specs.Parser.{Parses, Ended, Overran}
 use Rattle.p4_meaning.specs.Reads.{Read}

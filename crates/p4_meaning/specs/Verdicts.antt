@@ -7,7 +7,7 @@ use Rattle.p4_program.specs.declared.program.Program.{Program}
 use Rattle.p4_program.specs.Blocks.{places_of}
 use Rattle.p4_program.specs.Input.{Bounded}
 use Rattle.p4_program.specs.Numbered.{numbered}
-use Rattle.p4_meaning.specs.declared.outcome.Outcome.{Outcome}
+use Rattle.p4_program.specs.declared.outcome.Outcome.{Outcome}
 use Rattle.p4_meaning.specs.declared.test.Test.{Test}
 use Rattle.p4_meaning.specs.declared.verdict.Verdict.{Verdict}
 use Rattle.p4_meaning.specs.declared.verdict.Verdict.TheVariants.{Covered, Unreachable, Unsteady, Undecided}

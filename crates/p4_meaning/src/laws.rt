@@ -1,7 +1,7 @@
 //! What holds of the definitions themselves.
 ghost use Rattle.std.specs.Prelude.{ℕ, List};
 ghost use Rattle.p4_meaning.specs.Run.{Run};
-ghost use Rattle.p4_meaning.specs.declared.outcome.Outcome.{Outcome};
+ghost use Rattle.p4_program.specs.declared.outcome.Outcome.{Outcome};
 ghost use Rattle.p4_program.specs.declared.bounds.Bounds.{Bounds};
 ghost use Rattle.p4_program.specs.declared.input.Input.{Input};
 ghost use Rattle.p4_program.specs.declared.program.Program.{Program};

@@ -12,13 +12,11 @@
 #![tactic(auto)]
 
 pub mod laws;
-mod outcome;
 pub mod run_examples;
 pub mod run_laws;
 mod test;
 pub mod typed_test;
 mod verdict;
 
-pub use outcome::{Outcome, Shape, outcome_shape};
 pub use test::{Expected, Nibble, Nibbles, Test};
 pub use verdict::Verdict;

@@ -8,7 +8,7 @@ ghost use Rattle.p4_meaning.specs.Runs.Run.{RunOf, RunUnder};
 ghost use Rattle.p4_meaning.specs.Runs.Shown.{Passes, SendsAt, Shows};
 ghost use Rattle.p4_meaning.specs.Runs.StatementExamples.{applies_table, bounds, chooses_header, chooses_invalid, copies_out, exits_inside, fixed_by_call, fixed_by_out, gave, marked_first, no_constant_entry, port_table, pushes, reads_twice, sends_3, slice_assigned, with_entry, writes_void, zero_bytes};
 ghost use Rattle.p4_meaning.specs.Runs.SwitchExamples.{bytes, copies_stack, extracts_one, fills_stack, last_of_none, looks_nowhere, looks_past, loops, multicasts, other_port_in_egress, port_in_egress, selects_none, spec_in_egress, takes_some, verifies_no_error};
-ghost use Rattle.p4_meaning.specs.declared.outcome.Outcome.TheVariants.{Dropped, Overrun, Sent};
+ghost use Rattle.p4_program.specs.declared.outcome.Outcome.TheVariants.{Dropped, Overrun, Sent};
 ghost use Rattle.p4_program.specs.BoundedInput.{opening};
 ghost use Rattle.p4_program.specs.Syntax.Statements.{Exit, Return};
 ghost use Rattle.p4_program.specs.declared.typed.tables.MatchKind.TheVariants.{Lpm, Ternary};
@@ -79,7 +79,8 @@ pub fn winners_and_calls()
     ensures stack_overflows { SendsAt labels [] 1 (1 ∷ 1 ∷ 1 ∷ 2 ∷ 4 ∷ []) }
     ensures bottom_found { Passes labels (4 ∷ 7 ∷ 0 ∷ []) 0 (4 ∷ 7 ∷ 0 ∷ []) (1 ∷ 1 ∷ 4 ∷ []) }
     ensures overruns_at_third { RunOf (program labels) two_steps (opening two_steps) [] Overrun [] }
-    ensures reads_filled { RunUnder (program reads_twice) bounds (opening bounds) ones (Sent 0 zero_bytes) [] }
+    ensures reads_filled { RunUnder (program reads_twice) bounds (opening bounds) ones
+        (Sent 0 zero_bytes) [] }
 {}
 
 /// Runs of a forwarder of IPv4 packets.

@@ -1,14 +1,14 @@
 //! What holds of the runs of typed programs, whatever the program.
 ghost use Rattle.std.specs.Prelude.{◌≡◌, ◌↔◌, ℕ, Bool, List, [], Some, map, Contains};
-ghost use Rattle.p4_meaning.specs.declared.outcome.Outcome.{Outcome};
-ghost use Rattle.p4_meaning.specs.declared.outcome.Outcome.TheVariants.{Overrun};
+ghost use Rattle.p4_program.specs.declared.outcome.Outcome.{Outcome};
+ghost use Rattle.p4_program.specs.declared.outcome.Outcome.TheVariants.{Overrun};
 ghost use Rattle.p4_meaning.specs.Runs.Acts.{After, Store};
 ghost use Rattle.p4_meaning.specs.Runs.Contents.{Content};
 ghost use Rattle.p4_meaning.specs.Runs.Courses.{Read, Makes};
 ghost use Rattle.p4_meaning.specs.Runs.Expressions.{Reach, evaluate, AppliesNoTable};
 ghost use Rattle.p4_meaning.specs.Runs.Run.{Run, RunOf, RunUnder, seen};
 ghost use Rattle.p4_meaning.specs.Runs.Tables.{candidates_in};
-ghost use Rattle.p4_meaning.specs.Runs.Winners.{Candidate, Wins, Winner, winner};
+ghost use Rattle.p4_program.specs.Winners.{Candidate, Wins, Winner, winner};
 ghost use Rattle.p4_program.specs.BoundedInput.{BoundedInput};
 ghost use Rattle.p4_program.specs.declared.bounds.Bounds.{Bounds};
 ghost use Rattle.p4_program.specs.declared.typed.input.Input.{Input};
@@ -23,36 +23,38 @@ ghost use Rattle.p4_program.specs.WellFormed.Programs.{WellFormed};
 pub fn inputs_have_runs()
     ensures under { (p : CoreProgram) (b : Bounds) (x : Input) (words : ℕ → ℕ)
         → (outcome : Outcome) × (marks : List ℕ) × RunUnder p b x words outcome marks }
-    ensures is_run { (p : CoreProgram) (b : Bounds) (x : Input) (words : ℕ → ℕ) (outcome : Outcome) (marks : List ℕ)
-        → RunUnder p b x words outcome marks → Run p b x outcome marks }
+    ensures is_run { (p : CoreProgram) (b : Bounds) (x : Input) (words : ℕ → ℕ) (outcome : Outcome)
+        (marks : List ℕ) → RunUnder p b x words outcome marks → Run p b x outcome marks }
 {}
 
 /// The values that unspecified reads give fix all else of a run.
 pub fn one_run_for_reads()
-    ensures { (p : CoreProgram) (b : Bounds) (x : Input) (reads : List Read) (o q : Outcome) (m n : List ℕ)
-        → RunOf p b x reads o m → RunOf p b x reads q n → (o ≡ q) × (m ≡ n) }
+    ensures { (p : CoreProgram) (b : Bounds) (x : Input) (reads : List Read) (o q : Outcome)
+        (m n : List ℕ) → RunOf p b x reads o m → RunOf p b x reads q n → (o ≡ q) × (m ≡ n) }
 {}
 
 /// The plain function of the reads gives just the runs.
 pub fn runs_are_computed()
-    ensures { (p : CoreProgram) (b : Bounds) (x : Input) (reads : List Read) (outcome : Outcome) (marks : List ℕ)
-        → RunOf p b x reads outcome marks ↔ (seen p b x reads ≡ Some (outcome, marks)) }
+    ensures { (p : CoreProgram) (b : Bounds) (x : Input) (reads : List Read) (outcome : Outcome)
+        (marks : List ℕ) → RunOf p b x reads outcome marks ↔ (seen p b x reads ≡ Some (outcome, marks)) }
 {}
 
 /// A fill has no two runs of an input.
 pub fn one_run_under_a_fill()
-    ensures { (p : CoreProgram) (b : Bounds) (x : Input) (words : ℕ → ℕ) (o q : Outcome) (m n : List ℕ)
-        → RunUnder p b x words o m → RunUnder p b x words q n → (o ≡ q) × (m ≡ n) }
+    ensures { (p : CoreProgram) (b : Bounds) (x : Input) (words : ℕ → ℕ) (o q : Outcome)
+        (m n : List ℕ) → RunUnder p b x words o m → RunUnder p b x words q n → (o ≡ q) × (m ≡ n) }
 {}
 
 /// A run that overruns has begun nothing.
 pub fn overruns_have_no_marks()
-    ensures { (p : CoreProgram) (b : Bounds) (x : Input) (marks : List ℕ) → Run p b x Overrun marks → marks ≡ [] }
+    ensures { (p : CoreProgram) (b : Bounds) (x : Input) (marks : List ℕ)
+        → Run p b x Overrun marks → marks ≡ [] }
 {}
 
 /// A run begins statements that the program has.
 pub fn marks_are_numbers()
-    ensures { (p : CoreProgram) (b : Bounds) (x : Input) (outcome : Outcome) (marks : List ℕ) → Run p b x outcome marks
+    ensures { (p : CoreProgram) (b : Bounds) (x : Input) (outcome : Outcome) (marks : List ℕ)
+        → Run p b x outcome marks
         → (n : ℕ) → Contains marks n → Contains (map (λ s. s.number) (statements_numbered p)) n }
 {}
 

@@ -10,3 +10,6 @@ pub mod BoundedInput
 pub mod WellFormed
 pub mod Built
 pub mod Shapes
+pub mod Outcome
+pub mod Unspecified
+pub mod Winners

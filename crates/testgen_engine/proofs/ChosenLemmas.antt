@@ -15,7 +15,7 @@ use Rattle.p4_program.specs.declared.input.TheConstants.{OPENING_BYTES}
 use Rattle.p4_program.specs.Numbered.{numbered, numbers_from}
 use Rattle.p4_program.specs.Blocks.{place_of}
 use Rattle.p4_program.specs.declared.v1model.TheConstants.{DROP_PORT}
-use Rattle.p4_meaning.specs.declared.outcome.Outcome.TheVariants as outcome
+use Rattle.p4_program.specs.declared.outcome.Outcome.TheVariants as outcome
 use Rattle.p4_meaning.specs.declared.test.Expected.TheVariants as expected
 use Rattle.p4_meaning.specs.declared.test.Nibble.TheVariants.{Fixed}
 use Rattle.p4_meaning.specs.declared.test.Test.{Test}

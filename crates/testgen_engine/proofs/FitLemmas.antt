@@ -11,7 +11,7 @@ use Rattle.p4_program.specs.Blocks.{place_of}
 use Rattle.p4_program.specs.Placed.{PlaceFits, IsPlaced}
 use Rattle.p4_program.specs.declared.program.Program.{Program}
 use Rattle.p4_program.specs.declared.program.Statement.{Statement}
-use Rattle.p4_meaning.specs.declared.outcome.Outcome.{Outcome}
+use Rattle.p4_program.specs.declared.outcome.Outcome.{Outcome}
 use Rattle.p4_meaning.specs.declared.test.Expected.{Expected}
 use Rattle.p4_meaning.specs.declared.test.Expected.TheVariants.{Drop, Packet}
 use Rattle.p4_meaning.specs.declared.test.Nibble.{Nibble}

@@ -16,12 +16,12 @@ use Rattle.p4_program.specs.declared.program.StatementKind.TheVariants.{AssignEg
 use Rattle.p4_program.specs.declared.v1model.Block.{Block}
 use Rattle.p4_program.specs.declared.v1model.Block.TheVariants.{Verify, Egress, Compute, Deparser}
 use Rattle.p4_program.specs.declared.v1model.TheConstants.{DROP_PORT}
-use Rattle.p4_meaning.specs.declared.outcome.Outcome.{Outcome}
-use Rattle.p4_meaning.specs.declared.outcome.Outcome.TheVariants.{Sent, Dropped}
-use Rattle.p4_meaning.specs.declared.outcome.Shape.TheVariants as shape
+use Rattle.p4_program.specs.declared.outcome.Outcome.{Outcome}
+use Rattle.p4_program.specs.declared.outcome.Outcome.TheVariants.{Sent, Dropped}
+use Rattle.p4_program.specs.declared.outcome.Shape.TheVariants as shape
 use Rattle.p4_meaning.specs.Execution.{End, Next}
 use Rattle.p4_meaning.specs.Good.{Good}
-use Rattle.p4_meaning.specs.Outcome.{shape_of}
+use Rattle.p4_program.specs.Outcome.{shape_of}
 use Rattle.p4_meaning.specs.Parser.{ParserEnd, Ended, Overran, ParsesWithin}
 use Rattle.p4_meaning.specs.Reads.{Read}
 use Rattle.p4_meaning.specs.Run.{Run}

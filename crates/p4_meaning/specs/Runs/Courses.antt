@@ -3,15 +3,9 @@
 use Rattle.std.specs.Prelude.{ℕ, ◌≡◌, ◌<◌, ◌≤◌, ◌-◌, ◌^◌, ◌==◌, nat_lt, nat_le, ◌&&◌, Bool, false, List, [], ◌∷◌, Option, Some, None, option_map, if◌then◌else◌}
 use Rattle.p4_program.specs.declared.typed.types.Scalar.{Scalar}
 use Rattle.p4_program.specs.declared.typed.types.Scalar.TheVariants.{Sized, Members}
+use Rattle.p4_program.specs.Unspecified.{IsAmong}
 
 infixl 10 ◌>>=◌
--- P4-16, "Reading uninitialized values and writing fields of invalid headers": a read gives some value of the type. It is one
--- of all numbers of so many bits or, for an error or an enum without a width, the number of a member, which is at most that of
--- the last.
-abbrev pub IsAmong : Scalar → ℕ → Type 0
-IsAmong (Sized width) value = value < 2 ^ width
-IsAmong (Members count) value = value ≤ count - 1
-
 -- a read: among which values, and the one that it gave
 pub record Read : Type 0 where
   pub scalar : Scalar

@@ -1,7 +1,7 @@
 -- Fills, which give the unspecified reads of a replay their values: words of 32 bits, drawn one after another.
-use Rattle.std.specs.Prelude.{ℕ, zero, suc, ◌≡◌, ◌+◌, ◌-◌, ◌*◌, ◌/◌, ◌%◌, ◌^◌, min, List, [], ◌∷◌, ⊤}
+use Rattle.std.specs.Prelude.{ℕ, zero, suc, ◌≡◌, ◌+◌, ◌-◌, ◌*◌, ◌/◌, ◌%◌, ◌^◌, List, [], ◌∷◌, ⊤}
 use Rattle.p4_program.specs.declared.typed.types.Scalar.{Scalar}
-use Rattle.p4_program.specs.declared.typed.types.Scalar.TheVariants.{Sized, Members}
+use Rattle.p4_program.specs.Unspecified.{clipped}
 use Rattle.p4_program.specs.WellFormed.Types.{width_of}
 use Rattle.p4_meaning.specs.Runs.Courses.{Read}
 
@@ -14,13 +14,8 @@ abbrev pub drawn : (words : ℕ → ℕ) → (first count : ℕ) → ℕ
 drawn words first zero = 0
 drawn words first (suc count) = words first % 2 ^ 32 + 2 ^ 32 * drawn words (suc first) count
 
--- the lowest bits of them; past the last member is the last member
-abbrev pub cut_for : Scalar → ℕ → ℕ
-cut_for (Sized width) number = number % 2 ^ width
-cut_for (Members count) number = min (number % 2 ^ 8) (count - 1)
-
 abbrev pub filled_value : (words : ℕ → ℕ) → ℕ → Scalar → ℕ
-filled_value words first scalar = cut_for scalar (drawn words first (words_for scalar))
+filled_value words first scalar = clipped scalar (drawn words first (words_for scalar))
 
 -- the reads have the values of the words from a place on
 abbrev pub IsFilled : (words : ℕ → ℕ) → ℕ → List Read → Type 0

@@ -4,10 +4,10 @@ use Rattle.p4_program.specs.declared.bounds.Bounds.{Bounds}
 use Rattle.p4_program.specs.declared.typed.input.Input.{Input}
 use Rattle.p4_program.specs.BoundedInput.{BoundedInput}
 use Rattle.p4_program.specs.Syntax.Programs.{CoreProgram}
-use Rattle.p4_meaning.specs.declared.outcome.Outcome.{Outcome}
-use Rattle.p4_meaning.specs.declared.outcome.Shape.{Shape}
-use Rattle.p4_meaning.specs.declared.outcome.Shape.TheVariants.{Overrun}
-use Rattle.p4_meaning.specs.Outcome.{shape_of}
+use Rattle.p4_program.specs.declared.outcome.Outcome.{Outcome}
+use Rattle.p4_program.specs.declared.outcome.Shape.{Shape}
+use Rattle.p4_program.specs.declared.outcome.Shape.TheVariants.{Overrun}
+use Rattle.p4_program.specs.Outcome.{shape_of}
 use Rattle.p4_meaning.specs.Runs.Run.{Run}
 
 -- all runs of the input have one shape, and that is not Overrun

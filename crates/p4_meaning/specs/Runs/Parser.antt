@@ -9,7 +9,7 @@ use Rattle.p4_meaning.specs.Runs.Acts.{Act, Result, Gives, Stops, Returned, Exit
 use Rattle.p4_meaning.specs.Runs.Contents.{number_in}
 use Rattle.p4_meaning.specs.Runs.Expressions.{Reach, evaluate_all, paths_in_all}
 use Rattle.p4_meaning.specs.Runs.Statements.{runs_all}
-use Rattle.p4_meaning.specs.Runs.Winners.{all_match}
+use Rattle.p4_program.specs.Winners.{all_match}
 
 -- how the parser ends: with this error, which is `NoError` where none was raised, or as it would enter one state more than
 -- the bounds allow

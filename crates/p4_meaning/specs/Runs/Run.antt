@@ -3,8 +3,8 @@ use Rattle.std.specs.Prelude.{ℕ, ◌≡◌, List, [], Option, option_map}
 use Rattle.p4_program.specs.declared.bounds.Bounds.{Bounds}
 use Rattle.p4_program.specs.declared.typed.input.Input.{Input}
 use Rattle.p4_program.specs.Syntax.Programs.{CoreProgram}
-use Rattle.p4_meaning.specs.declared.outcome.Outcome.{Outcome}
-use Rattle.p4_meaning.specs.declared.outcome.Outcome.TheVariants.{Sent, Dropped, Overrun}
+use Rattle.p4_program.specs.declared.outcome.Outcome.{Outcome}
+use Rattle.p4_program.specs.declared.outcome.Outcome.TheVariants.{Sent, Dropped, Overrun}
 use Rattle.p4_meaning.specs.Runs.Acts.{Environment}
 use Rattle.p4_meaning.specs.Runs.Contents.{Content}
 use Rattle.p4_meaning.specs.Runs.Courses.{Read, Makes, Made, made}

@@ -2,8 +2,8 @@
 use Rattle.std.specs.Prelude.{ℕ, List, []}
 use Rattle.p4_program.specs.declared.typed.input.Input.{Input}
 use Rattle.p4_program.specs.BoundedInput.{opening}
-use Rattle.p4_meaning.specs.declared.outcome.Outcome.{Outcome}
-use Rattle.p4_meaning.specs.declared.outcome.Outcome.TheVariants.{Sent}
+use Rattle.p4_program.specs.declared.outcome.Outcome.{Outcome}
+use Rattle.p4_program.specs.declared.outcome.Outcome.TheVariants.{Sent}
 use Rattle.p4_meaning.specs.Runs.Courses.{Read}
 use Rattle.p4_meaning.specs.Runs.Examples.{Parts, program}
 use Rattle.p4_meaning.specs.Runs.Run.{RunOf}

@@ -8,8 +8,8 @@ use Rattle.p4_program.specs.declared.v1model.TheConstants.{DROP_PORT}
 use Rattle.p4_program.specs.Syntax.Callables.{CoreParser}
 use Rattle.p4_program.specs.Syntax.Statements.{NoStatements}
 use Rattle.p4_program.specs.WellFormed.Programs.{parser_at}
-use Rattle.p4_meaning.specs.declared.outcome.Outcome.{Outcome}
-use Rattle.p4_meaning.specs.declared.outcome.Outcome.TheVariants.{Sent, Dropped, Overrun}
+use Rattle.p4_program.specs.declared.outcome.Outcome.{Outcome}
+use Rattle.p4_program.specs.declared.outcome.Outcome.TheVariants.{Sent, Dropped, Overrun}
 use Rattle.p4_meaning.specs.Runs.Acts.{Environment, Store}
 use Rattle.p4_meaning.specs.Runs.Bodies.{reach_of, controls_of}
 use Rattle.p4_meaning.specs.Runs.Calls.{callee_of}

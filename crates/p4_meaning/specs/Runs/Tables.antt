@@ -10,7 +10,7 @@ use Rattle.p4_meaning.specs.Runs.Acts.{Act, gives, ◌>>=◌, ◌>>◌}
 use Rattle.p4_meaning.specs.Runs.Calls.{runs_with, callee_of}
 use Rattle.p4_meaning.specs.Runs.Contents.{number_in}
 use Rattle.p4_meaning.specs.Runs.Expressions.{Reach, Applied, evaluate_all}
-use Rattle.p4_meaning.specs.Runs.Winners.{Candidate, winner}
+use Rattle.p4_program.specs.Winners.{Candidate, winner}
 
 -- ---- entries
 

@@ -6,7 +6,7 @@ use Rattle.p4_program.specs.BoundedInput.{BoundedInput}
 use Rattle.p4_program.specs.Numbered.{numbered}
 use Rattle.p4_program.specs.Syntax.Numbering.{statements_numbered}
 use Rattle.p4_program.specs.Syntax.Programs.{CoreProgram}
-use Rattle.p4_meaning.specs.declared.outcome.Outcome.{Outcome}
+use Rattle.p4_program.specs.declared.outcome.Outcome.{Outcome}
 use Rattle.p4_meaning.specs.declared.typed_test.Test.{Test}
 use Rattle.p4_meaning.specs.declared.verdict.Verdict.{Verdict}
 use Rattle.p4_meaning.specs.declared.verdict.Verdict.TheVariants.{Covered, Unreachable, Unsteady, Undecided}

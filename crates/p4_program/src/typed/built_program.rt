@@ -27,7 +27,8 @@ pub fn built(program: &Program) -> bool
 }
 
 fn parser_built(program: &Program) -> bool
-    ensures { IsTrue result ↔ IsSomeAnd (parser_at (core_of program.now) program.now.blocks.parser) BuiltParser }
+    ensures { IsTrue result
+        ↔ IsSomeAnd (parser_at (core_of program.now) program.now.blocks.parser) BuiltParser }
 {
     match program.parser(program.blocks.parser) {
         Some(parser) => accepts_alone(parser),
@@ -70,7 +71,8 @@ fn accepts(transition: &Transition) -> bool
 
 /// Whether the control of the instance declares nothing and does nothing.
 fn block_empty(program: &Program, instance: u32) -> bool
-    ensures { IsTrue result ↔ OfInstance (core_of program.now) instance (EmptyControl (core_of program.now)) }
+    ensures { IsTrue result
+        ↔ OfInstance (core_of program.now) instance (EmptyControl (core_of program.now)) }
 {
     match program.control_of(instance) {
         Some(number) => control_empty(program, number),
@@ -79,7 +81,8 @@ fn block_empty(program: &Program, instance: u32) -> bool
 }
 
 fn control_empty(program: &Program, number: u32) -> bool
-    ensures { IsTrue result ↔ IsSomeAnd (control_at (core_of program.now) number) (EmptyControl (core_of program.now) number) }
+    ensures { IsTrue result ↔ IsSomeAnd (control_at (core_of program.now) number)
+        (EmptyControl (core_of program.now) number) }
 {
     match program.control(number) {
         Some(control) => declares_nothing(program, number, control)
@@ -89,7 +92,8 @@ fn control_empty(program: &Program, number: u32) -> bool
 }
 
 fn declares_nothing(program: &Program, number: u32, control: &Control) -> bool
-    ensures { IsTrue result ↔ DeclaresNothing (core_of program.now) number (control_of control.now) }
+    ensures { IsTrue result
+        ↔ DeclaresNothing (core_of program.now) number (control_of control.now) }
 {
     control.variables.is_empty()
         && no_table(control)
@@ -127,7 +131,8 @@ fn is_not_of(number: u32, callable: &Callable) -> bool
 }
 
 fn ingress_built(program: &Program) -> bool
-    ensures { IsTrue result ↔ OfInstance (core_of program.now) program.now.blocks.ingress (BuiltIngress (core_of program.now)) }
+    ensures { IsTrue result ↔ OfInstance (core_of program.now) program.now.blocks.ingress
+        (BuiltIngress (core_of program.now)) }
 {
     match program.control_of(program.blocks.ingress) {
         Some(number) => control_built(program, number),
@@ -136,7 +141,8 @@ fn ingress_built(program: &Program) -> bool
 }
 
 fn control_built(program: &Program, number: u32) -> bool
-    ensures { IsTrue result ↔ IsSomeAnd (control_at (core_of program.now) number) (BuiltIngress (core_of program.now) number) }
+    ensures { IsTrue result ↔ IsSomeAnd (control_at (core_of program.now) number)
+        (BuiltIngress (core_of program.now) number) }
 {
     match program.control(number) {
         Some(control) => {

@@ -34,7 +34,8 @@ pub fn statement_places(alloc: Global, program: &Program) -> Result<Places, Allo
 }
 
 fn push_callable(places: &mut Places, callable: &Callable) -> Result<(), AllocError>
-    ensures { OnOk result (places.new ≡ places.old ++ map place_of (numbered_in_callable (callable_of callable.now))) }
+    ensures { OnOk result (places.new
+        ≡ places.old ++ map place_of (numbered_in_callable (callable_of callable.now))) }
 {
     match callable {
         Callable::OfAction(action) => push_statements(places, action.body.as_slice()),
@@ -47,7 +48,8 @@ fn push_callable(places: &mut Places, callable: &Callable) -> Result<(), AllocEr
 }
 
 fn push_states(places: &mut Places, states: &[State]) -> Result<(), AllocError>
-    ensures { OnOk result (places.new ≡ places.old ++ map place_of (flat_map (λ s. numbered_in_state (state_of s)) states.now)) }
+    ensures { OnOk result (places.new ≡ places.old
+        ++ map place_of (flat_map (λ s. numbered_in_state (state_of s)) states.now)) }
 {
     for state in states {
         push_statements(places, state.statements.as_slice())?;
@@ -57,7 +59,8 @@ fn push_states(places: &mut Places, states: &[State]) -> Result<(), AllocError>
 
 #[cycle(places)]
 fn push_statements(places: &mut Places, statements: &[Statement]) -> Result<(), AllocError>
-    ensures { OnOk result (places.new ≡ places.old ++ map place_of (numbered_in_all (statements_of statements.now))) }
+    ensures { OnOk result (places.new
+        ≡ places.old ++ map place_of (numbered_in_all (statements_of statements.now))) }
 {
     for statement in statements {
         push_statement(places, statement)?;
@@ -67,7 +70,8 @@ fn push_statements(places: &mut Places, statements: &[Statement]) -> Result<(), 
 
 #[cycle(places)]
 fn push_statement(places: &mut Places, statement: &Statement) -> Result<(), AllocError>
-    ensures { OnOk result (places.new ≡ places.old ++ map place_of (numbered_in (statement_of statement.now))) }
+    ensures { OnOk result (places.new
+        ≡ places.old ++ map place_of (numbered_in (statement_of statement.now))) }
 {
     match statement {
         Statement::Numbered(_, place, _) => places.push(*place),
@@ -82,7 +86,8 @@ fn push_statement(places: &mut Places, statement: &Statement) -> Result<(), Allo
 
 #[cycle(places)]
 fn push_cases(places: &mut Places, cases: &[SwitchCase]) -> Result<(), AllocError>
-    ensures { OnOk result (places.new ≡ places.old ++ map place_of (numbered_in_cases (switch_cases_of cases.now))) }
+    ensures { OnOk result (places.new
+        ≡ places.old ++ map place_of (numbered_in_cases (switch_cases_of cases.now))) }
 {
     for case in cases {
         push_statements(places, case.body.as_slice())?;

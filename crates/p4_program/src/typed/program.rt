@@ -52,7 +52,8 @@ impl Program {
 
     /// The action of this number among the callables, where one has it.
     pub fn action(&self, number: u32) -> Option<&Action>
-        ensures { option_map action_of (option_copied result) ≡ action_at (core_of self.now) number }
+        ensures { option_map action_of (option_copied result)
+            ≡ action_at (core_of self.now) number }
     {
         match self.callables.get(number as usize)? {
             Callable::OfAction(action) => Some(action),
@@ -62,7 +63,8 @@ impl Program {
 
     /// The control of this number among the callables, where one has it.
     pub fn control(&self, number: u32) -> Option<&Control>
-        ensures { option_map control_of (option_copied result) ≡ control_at (core_of self.now) number }
+        ensures { option_map control_of (option_copied result)
+            ≡ control_at (core_of self.now) number }
     {
         match self.callables.get(number as usize)? {
             Callable::OfControl(control) => Some(control),
@@ -72,7 +74,8 @@ impl Program {
 
     /// The parser of this number among the callables, where one has it.
     pub fn parser(&self, number: u32) -> Option<&Parser>
-        ensures { option_map parser_of (option_copied result) ≡ parser_at (core_of self.now) number }
+        ensures { option_map parser_of (option_copied result)
+            ≡ parser_at (core_of self.now) number }
     {
         match self.callables.get(number as usize)? {
             Callable::OfParser(parser) => Some(parser),

@@ -69,7 +69,8 @@ fn widths_listed(
     program: &Program,
     actions: &[ListedAction],
 ) -> Result<Items<Widths>, AllocError>
-    ensures { IfOk result (λ widths. widths ≡ map (λ listed. argument_widths (core_of program.now) listed.action) actions.now) }
+    ensures { IfOk result (λ widths. widths
+        ≡ map (λ listed. argument_widths (core_of program.now) listed.action) actions.now) }
 {
     let mut widths = Items::new(alloc);
     for listed in actions {

@@ -1,9 +1,9 @@
 -- How runs end.
 use Rattle.std.specs.Prelude.{length}
-use Rattle.p4_meaning.specs.declared.outcome.Outcome.{Outcome}
-use Rattle.p4_meaning.specs.declared.outcome.Outcome.TheVariants as outcome
-use Rattle.p4_meaning.specs.declared.outcome.Shape.{Shape}
-use Rattle.p4_meaning.specs.declared.outcome.Shape.TheVariants as shape
+use Rattle.p4_program.specs.declared.outcome.Outcome.{Outcome}
+use Rattle.p4_program.specs.declared.outcome.Outcome.TheVariants as outcome
+use Rattle.p4_program.specs.declared.outcome.Shape.{Shape}
+use Rattle.p4_program.specs.declared.outcome.Shape.TheVariants as shape
 
 -- the kind of an outcome, and for a packet its port and length
 abbrev pub shape_of : Outcome → Shape

@@ -1,8 +1,8 @@
 //! How a run ends.
 ghost use Rattle.std.specs.Prelude.{◌≡◌};
-ghost use Rattle.p4_meaning.specs.Outcome.{shape_of};
+ghost use Rattle.p4_program.specs.Outcome.{shape_of};
 
-use p4_program::Bytes;
+use crate::input::Bytes;
 
 /// How a run ends.
 #[derive(Debug, Drop)]
