@@ -4,4 +4,6 @@
 #[cfg(test)]
 mod asking;
 #[cfg(test)]
-mod ports;
+mod questions;
+#[cfg(test)]
+mod terms;
