@@ -64,7 +64,8 @@ pub fn bits_of(alloc: Global, dag: &Dag, t: Term) -> Result<Items<Var>, AllocErr
 /// The wire of a word of one bit. A term that asks for a read in two widths is 1 nowhere, since no point gives it both.
 fn goal_of(word: &[Wire], one_width: bool) -> Wire
     requires { length word.now ≡ 1 }
-    ensures { result ≡ (if one_width then slice_index_or word.now 0 (Known false) else Known false) }
+    ensures { result
+        ≡ (if one_width then slice_index_or word.now 0 (Known false) else Known false) }
 {
     if one_width {
         word[0]

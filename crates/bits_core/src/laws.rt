@@ -118,7 +118,9 @@ pub fn extensions_are_cut()
 pub fn checksums_are_as_worked_out()
     ensures zero { csum16_value (0 ∷ []) ≡ 65535 }
     ensures end_carry { csum16_value (65535 ∷ 1 ∷ []) ≡ 65534 }
-    ensures with_its_sum { csum16_value (17664 ∷ 115 ∷ 0 ∷ 16384 ∷ 16401 ∷ 47201 ∷ 49320 ∷ 1 ∷ 49320 ∷ 199 ∷ []) ≡ 0 }
-    ensures without { csum16_value (17664 ∷ 115 ∷ 0 ∷ 16384 ∷ 16401 ∷ 49320 ∷ 1 ∷ 49320 ∷ 199 ∷ []) ≡ 47201 }
+    ensures with_its_sum { csum16_value
+        (17664 ∷ 115 ∷ 0 ∷ 16384 ∷ 16401 ∷ 47201 ∷ 49320 ∷ 1 ∷ 49320 ∷ 199 ∷ []) ≡ 0 }
+    ensures without { csum16_value
+        (17664 ∷ 115 ∷ 0 ∷ 16384 ∷ 16401 ∷ 49320 ∷ 1 ∷ 49320 ∷ 199 ∷ []) ≡ 47201 }
     ensures exclusive { xor16_value (4660 ∷ 255 ∷ []) ≡ 4811 }
 {}

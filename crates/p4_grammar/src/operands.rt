@@ -200,7 +200,8 @@ fn copied(alloc: Global, literal: &Literal) -> Result<Literal, AllocError>
 pub(crate) fn width_at(alloc: Global, token: &Token) -> Result<Width, AllocError>
     requires { terminal_of token.now.word ≡ INT_LITERAL }
     ensures { IfOk result (λ width. option_map
-        (λ kind. roll-Width (record { kind = kind; span = token.now.span })) (width_at token.now.word) ≡ Some width) }
+        (λ kind. roll-Width (record { kind = kind; span = token.now.span }))
+        (width_at token.now.word) ≡ Some width) }
 {
     let kind = width_kind(alloc, &token.word)?;
     Ok(Width {

@@ -31,7 +31,6 @@ mod RestLemmas
 mod PieceLenLemmas
 mod OneCutLemmas
 mod PartsLemmas
-mod RefusalLemmas
 pub mod TokensLemmas
 mod ParenthesisLemmas
 mod GroupLemmas

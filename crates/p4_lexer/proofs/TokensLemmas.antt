@@ -14,7 +14,7 @@ use Rattle.p4_lexer.proofs.PartsLemmas.{parts_one}
 use Rattle.p4_lexer.proofs.ReplacementLemmas.{items_one}
 use Rattle.p4_lexer.proofs.LeavesLemmas.{leaves_only}
 use Rattle.p4_lexer.proofs.BecomeLemmas.{one_become}
-use Rattle.p4_lexer.proofs.RefusalLemmas.{decide_both}
+use Rattle.tg_base.proofs.RefusalLaws.{decide_both}
 
 parts_same : (text : List ℕ) (a b : Reading text) → b.parts ≡ a.parts
 parts_same text a b = parts_one text a.parts b.parts a.are_parts b.are_parts

@@ -36,7 +36,8 @@ pub fn one_run_for_reads()
 /// The plain function of the reads gives just the runs.
 pub fn runs_are_computed()
     ensures { (p : CoreProgram) (b : Bounds) (x : Input) (reads : List Read) (outcome : Outcome)
-        (marks : List ℕ) → RunOf p b x reads outcome marks ↔ (seen p b x reads ≡ Some (outcome, marks)) }
+        (marks : List ℕ) → RunOf p b x reads outcome marks
+        ↔ (seen p b x reads ≡ Some (outcome, marks)) }
 {}
 
 /// A fill has no two runs of an input.

@@ -10,7 +10,7 @@ use Rattle.tg_base.specs.Deciding.{DecidesOver}
 use Rattle.p4_rules.specs.declared.faults.Fault.{Fault}
 use Rattle.p4_rules.specs.Faults.{FaultsAt, Decides, pass_number, refusal_of, order_of, comes_first, earlier, least}
 use Rattle.p4_rules.proofs.LeastLaws.{either, one_first, other_first}
-use Rattle.p4_rules.proofs.RefusalLaws.{decides_over_itself, decides_along, decide_both}
+use Rattle.tg_base.proofs.RefusalLaws.{decides_over_itself, decides_along, decide_both}
 
 -- ---- the order of faults
 

@@ -1,6 +1,5 @@
 pub mod CheckedLaws
 pub mod ExampleFaults
-pub mod RefusalLaws
 pub mod LeastLaws
 pub mod DecidingLaws
 pub mod RefusedLaws

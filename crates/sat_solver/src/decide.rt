@@ -22,7 +22,8 @@ pub fn decide_inputs(
     requires reached { IsReached inputs solver.old decided.old.items }
     ensures extends { OnOk result (Extends solver.old solver.new) }
     ensures comes { IfOk result (Comes inputs solver.new decided.new.items) }
-    ensures all_set { IfOk result (λ conflict. conflict ≡ false → AreSetTo inputs solver.new.trail) }
+    ensures all_set { IfOk result
+        (λ conflict. conflict ≡ false → AreSetTo inputs solver.new.trail) }
 {
     if decide_guesses(solver, inputs, guesses, decided)? {
         return Ok(true);
@@ -59,7 +60,8 @@ fn decide_rest(
     requires reached { IsReached inputs solver.old decided.old.items }
     ensures extends { OnOk result (Extends solver.old solver.new) }
     ensures comes { IfOk result (Comes inputs solver.new decided.new.items) }
-    ensures all_set { IfOk result (λ conflict. conflict ≡ false → AreSetTo inputs solver.new.trail) }
+    ensures all_set { IfOk result
+        (λ conflict. conflict ≡ false → AreSetTo inputs solver.new.trail) }
 {
     for place in 0..inputs {
         let l = Lit {
@@ -85,7 +87,8 @@ fn decide_if_open(
     requires reached { IsReached inputs solver.old decided.old.items }
     ensures extends { OnOk result (Extends solver.old solver.new) }
     ensures comes { IfOk result (Comes inputs solver.new decided.new.items) }
-    ensures is_set { IfOk result (λ conflict. conflict ≡ false → IsSetOneWay solver.new.trail l.var) }
+    ensures is_set { IfOk result
+        (λ conflict. conflict ≡ false → IsSetOneWay solver.new.trail l.var) }
 {
     match solver.value(l) {
         Truth::Open => (),

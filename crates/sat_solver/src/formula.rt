@@ -64,7 +64,8 @@ fn highest_in(lits: &[Lit], above: u32) -> u32
 /// The valuation in which the literals that are set are true, and open variables are false.
 pub fn valuation_of(alloc: Global, solver: &Propagator) -> Result<Valuation, AllocError>
     requires bound { solver.now.width ≤ 2 ^ 32 }
-    ensures gives { IfOk result (λ valuation. GivesTrail valuation solver.now.width solver.now.trail) }
+    ensures gives { IfOk result
+        (λ valuation. GivesTrail valuation solver.now.width solver.now.trail) }
     ensures variables { IfOk result (λ valuation. solver.now.width ≤ length valuation + 1) }
 {
     let mut truths = Vec::new(alloc);

@@ -45,7 +45,8 @@ pub fn step(
     requires guesses { All (λ l. IsInput inputs l.var) guesses.now }
     requires determined { IsDetermined inputs checker.old.clauses }
     requires numbered { AreNumbered checker.old.clauses }
-    ensures ready { IfOk result (λ outcome. outcome ≡ Outcome.Cube → IsReady solver.new checker.new) }
+    ensures ready { IfOk result
+        (λ outcome. outcome ≡ Outcome.Cube → IsReady solver.new checker.new) }
     ensures comes_to { IfOk result (ComesTo checker.old checker.new) }
 {
     match solver.propagate() {
@@ -88,7 +89,8 @@ fn go_on(
     requires guesses { All (λ l. IsInput inputs l.var) guesses.now }
     requires determined { IsDetermined inputs checker.old.clauses }
     requires numbered { AreNumbered checker.old.clauses }
-    ensures ready { IfOk result (λ outcome. outcome ≡ Outcome.Cube → IsReady solver.new checker.new) }
+    ensures ready { IfOk result
+        (λ outcome. outcome ≡ Outcome.Cube → IsReady solver.new checker.new) }
     ensures comes_to { IfOk result (ComesTo checker.old checker.new) }
 {
     let level = solver.count();

@@ -14,7 +14,8 @@ use unit_propagation::{Propagator, Truth};
 pub fn conflicts_with(solver: &mut Propagator, lits: &[Lit]) -> bool
     requires within { IsWithin solver.old.width lits.now }
     requires consistent { IsConsistent (decisions solver.old ++ lits.now) }
-    ensures answer { IsTrue result ↔ Conflicts solver.old.clauses (decisions solver.old ++ lits.now) }
+    ensures answer { IsTrue result
+        ↔ Conflicts solver.old.clauses (decisions solver.old ++ lits.now) }
     ensures stays { solver.new ≡ solver.old }
 {
     let level = solver.count();
@@ -27,7 +28,8 @@ fn conflicts_above(solver: &mut Propagator, lits: &[Lit]) -> bool
     requires within { IsWithin solver.old.width lits.now }
     requires consistent { IsConsistent (decisions solver.old ++ lits.now) }
     ensures extends { Extends solver.old solver.new }
-    ensures answer { IsTrue result ↔ Conflicts solver.old.clauses (decisions solver.old ++ lits.now) }
+    ensures answer { IsTrue result
+        ↔ Conflicts solver.old.clauses (decisions solver.old ++ lits.now) }
 {
     if !decide_each(solver, lits) {
         return true;

@@ -33,7 +33,9 @@ impl Model for LitCode {
 
     ghost inverse = { λ l. record { number = code_of l } };
 
-    ghost inverse_ok = { λ c h i. let e : code_of (lit_of c.number) ≡ c.number = Prim.grind (arith, div-add-mod c.number 2) in record { number = e i } };
+    ghost inverse_ok = { λ c h i.
+        let e : code_of (lit_of c.number) ≡ c.number = Prim.grind (arith, div-add-mod c.number 2)
+        in record { number = e i } };
 }
 
 impl PartialEq for LitCode {

@@ -59,7 +59,8 @@ pub fn set_loose(
     ensures numbers { loose.new.numbers ≡ loose.old.numbers }
     ensures implies { Implied watched.now.clauses assignment.old assignment.new }
     ensures settled { IsSettled watched.now.clauses assignment.new.trail loose.new }
-    ensures falsified { IfSome result (λ c. IsFalseClause watched.now.clauses assignment.new.trail c) }
+    ensures falsified { IfSome result
+        (λ c. IsFalseClause watched.now.clauses assignment.new.trail c) }
     ensures are_true { IfNone result
         (AreTrue watched.now.clauses loose.new.numbers.items assignment.new.trail) }
 {
@@ -80,7 +81,8 @@ fn is_falsified(watched: &WatchedClauses, assignment: &mut Assignment, number: u
     requires loose { IsLoose watched.now.clauses number }
     ensures width { assignment.new.width ≡ assignment.old.width }
     ensures implies { Implied watched.now.clauses assignment.old assignment.new }
-    ensures falsified { OnTrue result (IsFalsified watched.now.clauses assignment.new.trail number) }
+    ensures falsified { OnTrue result
+        (IsFalsified watched.now.clauses assignment.new.trail number) }
     ensures is_true { OnFalse result (HasTrue watched.now.clauses assignment.new.trail number) }
 {
     let Some(l) = watched.literals(number).first() else {

@@ -42,7 +42,8 @@ pub fn run(
     ensures ready { ReadyTo watched.old.clauses watched.new.pairs assignment.new.trail head.new }
     ensures head { head.new ≤ length assignment.new.trail }
     ensures ended { IfNone result (head.new ≡ length assignment.new.trail) }
-    ensures falsified { IfSome result (λ c. IsFalseClause watched.old.clauses assignment.new.trail c) }
+    ensures falsified { IfSome result
+        (λ c. IsFalseClause watched.old.clauses assignment.new.trail c) }
     ensures indexed { IfNone result (IsWhole watched.new) }
     ensures consistent { IfNone result (IsConsistent assignment.new.trail) }
 {
@@ -68,7 +69,8 @@ fn visit(watched: &mut WatchedClauses, assignment: &mut Assignment, head: usize)
     ensures keeps { KeepsAll watched.old watched.new assignment.old.trail }
     ensures ready { ReadyTo watched.old.clauses watched.new.pairs assignment.new.trail head }
     ensures next { IfNone result (ReadyPast watched.old watched.new assignment.new.trail head) }
-    ensures falsified { IfSome result (λ c. IsFalseClause watched.old.clauses assignment.new.trail c) }
+    ensures falsified { IfSome result
+        (λ c. IsFalseClause watched.old.clauses assignment.new.trail c) }
     ensures indexed { IfNone result (IsWhole watched.new) }
 {
     let falsified = !assignment.nth(head);
@@ -98,7 +100,8 @@ fn step(
     requires within { falsified.var < watched.old.width }
     requires inside { place < length (list_at watched.old.lists falsified) }
     requires falsified { IsFalse assignment.old.trail falsified }
-    ensures seen { IsSeen watched.old watched.new assignment.old assignment.new falsified place result }
+    ensures seen { IsSeen watched.old watched.new assignment.old assignment.new
+        falsified place result }
     ensures assignment_width { assignment.new.width ≡ assignment.old.width }
 {
     let number = watched.nth(falsified, place);
@@ -130,7 +133,8 @@ fn step(
 pub fn find_other(clause: &[LitCode], other: LitCode, assignment: &Assignment) -> Option<LitCode>
     requires { IsWithin assignment.now.width clause.now }
     ensures found { IfSome result (λ l. IsFree assignment.now.trail clause.now other l) }
-    ensures none { IfNone result (All (λ k. k ≢ other → IsFalse assignment.now.trail k) clause.now) }
+    ensures none { IfNone result
+        (All (λ k. k ≢ other → IsFalse assignment.now.trail k) clause.now) }
 {
     for l in clause {
         if *l != other && !is_false(assignment, *l) {

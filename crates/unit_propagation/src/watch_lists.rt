@@ -99,7 +99,8 @@ fn reserve_for(list: &mut Vec<u32>, wanted: usize) -> Result<(), AllocError>
 pub fn list_clause(lists: &mut Vec<Vec<u32>>, pair: &Pair, number: u32)
     requires { ListsRoom pair.now (items_of lists.old.items) (rooms_of lists.old.items) }
     ensures size { length lists.new.items ≡ length lists.old.items }
-    ensures listed { ListsClause pair.now number (items_of lists.old.items) (items_of lists.new.items) }
+    ensures listed { ListsClause pair.now number
+        (items_of lists.old.items) (items_of lists.new.items) }
     ensures rooms { AtMost (rooms_of lists.old.items) (rooms_of lists.new.items) }
 {
     if pair.is_watched() {
