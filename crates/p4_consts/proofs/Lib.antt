@@ -1,6 +1,7 @@
 pub mod NotedLaws
 pub mod NameLaws
 pub mod NumberedLaws
+pub mod PredeclaredLaws
 pub mod PathLaws
 pub mod IntegerLaws
 pub mod ScopeLaws

@@ -2,6 +2,7 @@ pub mod Noted
 pub mod Fits
 pub mod Integers
 pub mod Operands
+pub mod Predeclared
 pub mod Meanings
 pub mod Numbered
 pub mod Scopes

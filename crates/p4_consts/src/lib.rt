@@ -3,8 +3,8 @@
 //! value and notes the rule's faults. Want of memory is an error, of which nothing is said.
 //!
 //! It has the integers and constants of compile time and the values of operators on them, operands
-//! and casts, scopes with what names stand for in them and how they change, literals, and the
-//! members of names that have no value. It has no rule of operators, calls and whole expressions
+//! and casts, scopes with what names stand for in them and how they change, the scope before a source,
+//! literals, and the members of names that have no value. It has no rule of operators, calls and whole expressions
 //! yet, and no walk over the tree. Nothing stands on it yet.
 //!
 //! A judgement gives what a part stands for, where it is right, and notes its faults, of which the
@@ -28,6 +28,7 @@ mod numbered;
 mod operands;
 mod paths;
 mod places;
+mod predeclared;
 mod scopes;
 mod things;
 mod types;
@@ -57,6 +58,7 @@ pub use operands::{
 };
 pub use paths::{path_of, step_from, step_on, validity_of, value_type};
 pub use places::Places;
+pub use predeclared::core_scope;
 pub use scopes::{Depths, Scope};
 pub use things::{Judged, Method, Thing};
 pub use types::{
