@@ -4,5 +4,6 @@ pub mod Integers
 pub mod Operands
 pub mod Meanings
 pub mod Numbered
+pub mod Pairs
 pub mod Scopes
 pub mod Things
