@@ -8,3 +8,4 @@ pub mod ScopeLaws
 pub mod CastLaws
 pub mod LiteralLaws
 pub mod ArithmeticLaws
+pub mod UnaryLaws

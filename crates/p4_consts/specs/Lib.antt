@@ -5,5 +5,6 @@ pub mod Operands
 pub mod Predeclared
 pub mod Meanings
 pub mod Numbered
+pub mod Pairs
 pub mod Scopes
 pub mod Things

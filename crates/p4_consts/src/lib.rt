@@ -26,12 +26,14 @@ mod named;
 mod names;
 mod numbered;
 mod operands;
+mod pairs;
 mod paths;
 mod places;
 mod predeclared;
 mod scopes;
 mod things;
 mod types;
+mod unary;
 mod values;
 mod wanted;
 
@@ -56,6 +58,7 @@ pub use numbered::Numbered;
 pub use operands::{
     Operand, Placed, constant_number, core_of, retyped, scalar_of, type_of, varies_at, varying_or,
 };
+pub use pairs::{Pair, each, with_bits};
 pub use paths::{path_of, step_from, step_on, validity_of, value_type};
 pub use places::Places;
 pub use predeclared::core_scope;
@@ -64,8 +67,9 @@ pub use things::{Judged, Method, Thing};
 pub use types::{
     bit_width, header_bits, is_run_time, is_scalar, is_sized, may_be_in_header, same_type,
 };
+pub use unary::unary_of;
 pub use values::value_of;
 pub use wanted::{
-    has_fields, is_boolean, is_comparable, is_integer, is_number, is_of_bits, is_sized_value,
-    may_be_amount,
+    Wanted, has_fields, is_boolean, is_comparable, is_integer, is_number, is_of_bits,
+    is_sized_value, may_be_amount,
 };

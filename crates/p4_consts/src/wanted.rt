@@ -7,6 +7,17 @@ use crate::operands::{Operand, type_of};
 use crate::types::is_sized;
 use p4_rules::SourceType;
 
+/// What the places of both operands of an operator want of each.
+#[derive(Clone, Copy, Debug, PartialEq, Eq)]
+pub enum Wanted {
+    Number,
+    Integer,
+    /// A value of `bit`.
+    Bits,
+    Boolean,
+    Comparable,
+}
+
 /// An integer of compile time or a sized value.
 pub fn is_number(operand: &Operand) -> bool
     ensures { result ≡ is_number_by_rules (operand_of operand.now) }
