@@ -24,3 +24,4 @@ pub mod SwitchExamples
 pub mod CallExamples
 pub mod Shown
 pub mod ForwarderExample
+pub mod BuiltRuns

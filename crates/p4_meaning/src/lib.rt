@@ -8,9 +8,11 @@
 //!
 //! Nothing here says how an answer is found. These are runs of the first skeleton. Runs of every
 //! typed program, with the same definitions upon them, are in `specs/Runs`: what holds of them is in
-//! `run_laws`, and small runs worked out are in `run_examples`.
+//! `run_laws`, what those of built programs come to in `built_laws`, and small runs worked out are in
+//! `run_examples`.
 #![tactic(auto)]
 
+pub mod built_laws;
 pub mod laws;
 pub mod run_examples;
 pub mod run_laws;

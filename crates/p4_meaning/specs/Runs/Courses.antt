@@ -1,6 +1,6 @@
 -- The course of a part of a run: which unspecified values it reads, which statements it begins, and how it ends. A course is
 -- fixed but for the values that its reads give.
-use Rattle.std.specs.Prelude.{ℕ, ◌≡◌, ◌<◌, ◌≤◌, ◌-◌, ◌^◌, ◌==◌, nat_lt, nat_le, ◌&&◌, Bool, false, List, [], ◌∷◌, Option, Some, None, option_map, if◌then◌else◌}
+use Rattle.std.specs.Prelude.{ℕ, ◌≡◌, ◌-◌, ◌^◌, ◌==◌, nat_lt, nat_le, ◌&&◌, Bool, false, List, [], ◌∷◌, Option, Some, None, option_map, if◌then◌else◌}
 use Rattle.p4_program.specs.declared.typed.types.Scalar.{Scalar}
 use Rattle.p4_program.specs.declared.typed.types.Scalar.TheVariants.{Sized, Members}
 use Rattle.p4_program.specs.Unspecified.{IsAmong}
