@@ -1,6 +1,8 @@
 -- The port that the ingress of a built program leaves has nine bits.
 use Rattle.std.proofs.Common.{◌≡◌, ℕ, ◌<◌, List, [], ◌∷◌, length, Some, refl, sym, ap, ◌∙◌, subst, arith}
 use Rattle.std.specs.Prelude.{slice_get, option_map, option_and_then, IsSomeAnd}
+use Rattle.std.proofs.Math.Logic.{∥∥₁_elim}
+use Rattle.std.specs.Coded.{le_prop}
 use Rattle.std.proofs.lemmas.Option.{same_Some}
 use Rattle.p4_program.specs.declared.typed.callables.Direction.{Direction}
 use Rattle.p4_program.specs.declared.typed.callables.Parameter.{Parameter}
@@ -79,8 +81,8 @@ module _ (p : CoreProgram) (types : TypesFit p) (s : Scope) (program : s.program
       let of_type = subst (λ t. type_along s.program (Field 1 ∷ []) t ≡ Some path.value_type) third.type_is of_third in
       same_Some (bits 9) path.value_type (sym field_is ∙ subst (λ q. type_along q (Field 1 ∷ []) standard_metadata ≡ Some path.value_type) program of_type)
 
-pub port_below : (p : CoreProgram) → WellFormed p → Built p → port_of p < PORT_END
-port_below p well built =
+port_is_below : (p : CoreProgram) → WellFormed p → Built p → port_of p < PORT_END
+port_is_below p well built =
     let f = ingress_of p built in
     let stands = well.callables_stand f.instance.control (OfControl f.control) (is_control (slice_get p.callables f.instance.control) f.control f.control_is) in
     let has = same_Some (signature f.control.parameters) _ (sym (ap (option_map (λ (c : CoreControl). signature c.parameters)) f.here) ∙ well.blocks_fit.ingress) in
@@ -88,3 +90,6 @@ port_below p well built =
     let third = third_of f.control.parameters f.control.variables _ _ _ standard_metadata has in
     subst (λ statements. egress_after 0 statements < PORT_END) (sym (statements_are p built))
     (stays_below s (sets_nine p well.types_fit s refl third) f.control.body f.holds.statements stands.body_fits 0 (omega arith))
+
+pub port_below : (p : CoreProgram) → ∥ WellFormed p ∥₁ → Built p → port_of p < PORT_END
+port_below p well built = ∥∥₁_elim well le_prop (λ w. port_is_below p w built)

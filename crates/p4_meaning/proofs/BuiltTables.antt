@@ -2,6 +2,8 @@
 -- 1 on.
 use Rattle.std.proofs.Common.{◌≡◌, ℕ, zero, suc, ◌+◌, ◌-◌, ◌<◌, ◌≤◌, ◌⊎◌, List, [], ◌∷◌, ◌++◌, length, Some, inl, inr, ⊎_elim, refl, sym, ap, ◌∙◌, subst, ap₂, arith}
 use Rattle.std.specs.Prelude.{flat_map, slice_get, option_and_then, Contains, IsSomeAnd}
+use Rattle.std.proofs.Math.Logic.{∥∥₁_elim}
+use Rattle.std.specs.Coded.{Coded-set, coded_list, coded_ℕ}
 use Rattle.std.proofs.lemmas.List.{length-map}
 use Rattle.std.proofs.lemmas.List.Sorted.{IsPermutation-sym, Contains-permutation, length_permutation}
 use Rattle.std.proofs.lemmas.Option.{same_Some, slice_get_within}
@@ -19,13 +21,9 @@ use Rattle.p4_program.specs.Syntax.Programs.{CoreProgram}
 use Rattle.p4_program.specs.WellFormed.Programs.{WellFormed, InstancesFit, InstanceFits, control_of_instance, block_instances}
 use Rattle.p4_meaning.specs.Runs.BuiltRuns.{numbers_of}
 use Rattle.p4_meaning.proofs.BuiltBlocks.{some_and, Found, found_control, ingress_of}
-use Rattle.p4_meaning.proofs.ListLaws.{Each, each_all, each_in, first_in, later_in, none_in, first_or_later}
+use Rattle.p4_meaning.proofs.ListLaws.{Each, each_all, each_in, first_in, later_in, none_in, none_long, first_or_later}
 
 -- ---- lists
-
-none_long : {A : Type 0} (xs : List A) → length xs ≡ 0 → xs ≡ []
-none_long [] e = refl
-none_long (x ∷ xs) e = absurd (omega (arith, e))
 
 in_either : {A : Type 0} (xs ys : List A) (y : A) → Contains (xs ++ ys) y → Contains xs y ⊎ Contains ys y
 in_either [] ys y c = inr c
@@ -140,12 +138,13 @@ module _ (p : CoreProgram) (fits : InstancesFit p) where
         let as_many = length_permutation (flat_map (λ (i : Instance). i.tables) p.instances) (numbers_from 0 (length p.tables)) fits.tables_once in
         none_long p.tables (sym (numbers_many 0 (length p.tables)) ∙ as_many ∙ ap length none)
 
-pub tables_are : (p : CoreProgram) → WellFormed p → Built p → p.tables ≡ []
-tables_are p well built = no_tables p well.instances_fit built
+pub tables_are : (p : CoreProgram) → ∥ WellFormed p ∥₁ → Built p → p.tables ≡ []
+tables_are p well built =
+    none_long p.tables (∥∥₁_elim well (Coded-set coded_ℕ _ _) (λ w. ap length (no_tables p w.instances_fit built)))
 
 -- ---- entries
 
-pub entries_are : (p : CoreProgram) → WellFormed p → Built p → (limit : ℕ) (es : List Entry) → BoundedEntries p limit es → es ≡ []
+pub entries_are : (p : CoreProgram) → ∥ WellFormed p ∥₁ → Built p → (limit : ℕ) (es : List Entry) → BoundedEntries p limit es → es ≡ []
 entries_are p well built limit [] h = refl
 entries_are p well built limit (e ∷ es) h =
     let of_none = subst (λ (ts : List NamedTable). IsSomeAnd (option_and_then (table_in p.callables) (slice_get ts e.table)) (FitsTable p e))
@@ -161,11 +160,14 @@ numbers_within first (suc count) n c = ⊎_elim
     (λ (later : Contains (numbers_from (suc first) count) n). let found = numbers_within (suc first) count n later in (omega (arith, found.0), omega (arith, found.1)))
     (first_or_later first (numbers_from (suc first) count) n c)
 
-pub numbered_only : (p : CoreProgram) → WellFormed p → (n : ℕ) → Contains (numbers_of p) n → (1 ≤ n) × (n ≤ length (statements_numbered p))
+numbers_are : (p : CoreProgram) → ∥ WellFormed p ∥₁ → numbers_of p ≡ numbers_from 1 (length (statements_numbered p))
+numbers_are p well = ∥∥₁_elim well (Coded-set (coded_list coded_ℕ) _ _) (λ w. w.numbered)
+
+pub numbered_only : (p : CoreProgram) → ∥ WellFormed p ∥₁ → (n : ℕ) → Contains (numbers_of p) n → (1 ≤ n) × (n ≤ length (statements_numbered p))
 numbered_only p well n c =
-    let found = numbers_within 1 (length (statements_numbered p)) n (subst (λ ns. Contains ns n) well.numbered c) in
+    let found = numbers_within 1 (length (statements_numbered p)) n (subst (λ ns. Contains ns n) (numbers_are p well) c) in
     (found.0, omega (arith, found.1))
 
-pub numbered_when : (p : CoreProgram) → WellFormed p → (n : ℕ) → 1 ≤ n → n ≤ length (statements_numbered p) → Contains (numbers_of p) n
+pub numbered_when : (p : CoreProgram) → ∥ WellFormed p ∥₁ → (n : ℕ) → 1 ≤ n → n ≤ length (statements_numbered p) → Contains (numbers_of p) n
 numbered_when p well n low high =
-    subst (λ ns. Contains ns n) (sym well.numbered) (numbers_have 1 (length (statements_numbered p)) n low (omega (arith, high)))
+    subst (λ ns. Contains ns n) (sym (numbers_are p well)) (numbers_have 1 (length (statements_numbered p)) n low (omega (arith, high)))

@@ -143,7 +143,7 @@ opening_bounded p b =
       };
     }
 
-module _ (p : CoreProgram) (well : WellFormed p) (built : Built p) (b : Bounds) where
+module _ (p : CoreProgram) (well : ∥ WellFormed p ∥₁) (built : Built p) (b : Bounds) where
   run_ends : (x : Input) (o : Outcome) (marks : List ℕ) → Run p b x o marks → o ≡ outcome_at (port_of p) x.packet
   run_ends x o marks run = (run_comes_to p b x o marks well built run).ends
 
