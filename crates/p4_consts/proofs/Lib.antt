@@ -9,3 +9,4 @@ pub mod CastLaws
 pub mod LiteralLaws
 pub mod ArithmeticLaws
 pub mod UnaryLaws
+pub mod SizeLaws

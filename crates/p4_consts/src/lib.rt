@@ -13,6 +13,7 @@
 #![tactic(auto)]
 
 mod arithmetic;
+mod base;
 mod casts;
 mod changes;
 mod constants;
@@ -31,12 +32,14 @@ mod paths;
 mod places;
 mod predeclared;
 mod scopes;
+mod sizes;
 mod things;
 mod types;
 mod unary;
 mod values;
 mod wanted;
 
+pub use base::base_thing;
 pub use casts::{as_bits, cast, cast_to, integer_as, resized};
 pub use changes::{
     leave, with_callable_depth, with_child_depth, with_name, with_shapes, with_table_depth,
@@ -63,6 +66,7 @@ pub use paths::{path_of, step_from, step_on, validity_of, value_type};
 pub use places::Places;
 pub use predeclared::core_scope;
 pub use scopes::{Depths, Scope};
+pub use sizes::{LARGEST_STACK, named_number, named_type, sized_number, stack_of};
 pub use things::{Judged, Method, Thing};
 pub use types::{
     bit_width, header_bits, is_run_time, is_scalar, is_sized, may_be_in_header, same_type,
