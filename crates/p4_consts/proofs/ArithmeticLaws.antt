@@ -7,7 +7,7 @@ use Rattle.bits_core.proofs.WidthLaws.{pow_le}
 use Rattle.p4_rules.specs.Integers.{is_negative, shifted_left, shifted_right, quotient, remainder}
 use Rattle.p4_consts.specs.Integers.{signed, kept_or_none}
 
-abs_signed : (b : Bool) (m : ℕ) → unsigned_abs (signed b m) ≡ m
+pub abs_signed : (b : Bool) (m : ℕ) → unsigned_abs (signed b m) ≡ m
 abs_signed false m = refl
 abs_signed true zero = refl
 abs_signed true (suc m) = refl

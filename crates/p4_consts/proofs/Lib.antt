@@ -10,3 +10,4 @@ pub mod LiteralLaws
 pub mod ArithmeticLaws
 pub mod UnaryLaws
 pub mod SizeLaws
+pub mod PlaceLaws

@@ -20,6 +20,7 @@ mod constants;
 mod faults;
 mod folding;
 mod found;
+mod indexes;
 mod integer;
 mod literals;
 mod meanings;
@@ -52,6 +53,7 @@ pub use folding::{
     width_in,
 };
 pub use found::{as_type, depth_of, meaning_of, once, shapes_of, type_meaning};
+pub use indexes::indexed;
 pub use integer::Integer;
 pub use literals::{literal, number_of};
 pub use meanings::Meaning;
