@@ -12,6 +12,7 @@
 //! whichever part has it. Where a part is faulty, what holds it is not judged any further.
 #![tactic(auto)]
 
+mod applying;
 mod arithmetic;
 mod base;
 mod casts;
@@ -40,6 +41,7 @@ mod unary;
 mod values;
 mod wanted;
 
+pub use applying::{applied, applied_with};
 pub use base::base_thing;
 pub use casts::{as_bits, cast, cast_to, integer_as, resized};
 pub use changes::{
