@@ -9,3 +9,5 @@ pub mod CastLaws
 pub mod LiteralLaws
 pub mod ArithmeticLaws
 pub mod UnaryLaws
+pub mod UnifyLaws
+pub mod ChoiceLaws

@@ -1,3 +1,4 @@
+pub mod Choices
 pub mod Noted
 pub mod Fits
 pub mod Integers
