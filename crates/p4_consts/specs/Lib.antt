@@ -1,3 +1,4 @@
+pub mod Applied
 pub mod Choices
 pub mod Noted
 pub mod Fits

@@ -12,6 +12,7 @@
 //! whichever part has it. Where a part is faulty, what holds it is not judged any further.
 #![tactic(auto)]
 
+mod applying;
 mod arithmetic;
 mod casts;
 mod changes;
@@ -39,6 +40,7 @@ mod unify;
 mod values;
 mod wanted;
 
+pub use applying::{applied, applied_with};
 pub use casts::{as_bits, cast, cast_to, integer_as, resized};
 pub use changes::{
     leave, with_callable_depth, with_child_depth, with_name, with_shapes, with_table_depth,
