@@ -12,3 +12,5 @@ pub mod ArithmeticLaws
 pub mod UnaryLaws
 pub mod SizeLaws
 pub mod PlaceLaws
+pub mod UnifyLaws
+pub mod ChoiceLaws
