@@ -12,6 +12,7 @@
 //! whichever part has it. Where a part is faulty, what holds it is not judged any further.
 #![tactic(auto)]
 
+mod argument_lists;
 mod arithmetic;
 mod casts;
 mod changes;
@@ -27,6 +28,7 @@ mod names;
 mod numbered;
 mod operands;
 mod pairs;
+mod passing;
 mod paths;
 mod places;
 mod predeclared;
@@ -37,6 +39,7 @@ mod unary;
 mod values;
 mod wanted;
 
+pub use argument_lists::{arguments, arguments_for};
 pub use casts::{as_bits, cast, cast_to, integer_as, resized};
 pub use changes::{
     leave, with_callable_depth, with_child_depth, with_name, with_shapes, with_table_depth,
@@ -59,6 +62,7 @@ pub use operands::{
     Operand, Placed, constant_number, core_of, retyped, scalar_of, type_of, varies_at, varying_or,
 };
 pub use pairs::{Pair, each, with_bits};
+pub use passing::{TypeTest, directed, object_passed, passed_in, path_in, path_passed};
 pub use paths::{path_of, step_from, step_on, validity_of, value_type};
 pub use places::Places;
 pub use predeclared::core_scope;
