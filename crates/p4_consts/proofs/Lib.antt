@@ -3,6 +3,8 @@ pub mod NotedLaws
 pub mod NameLaws
 pub mod NumberedLaws
 pub mod PredeclaredLaws
+pub mod ArgumentLaws
+pub mod PartLaws
 pub mod PathLaws
 pub mod IntegerLaws
 pub mod ScopeLaws

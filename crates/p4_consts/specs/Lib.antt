@@ -5,6 +5,7 @@ pub mod Fits
 pub mod Integers
 pub mod Operands
 pub mod Predeclared
+pub mod Passing
 pub mod Meanings
 pub mod Numbered
 pub mod Pairs

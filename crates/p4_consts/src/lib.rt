@@ -13,6 +13,7 @@
 #![tactic(auto)]
 
 mod applying;
+mod argument_lists;
 mod arithmetic;
 mod base;
 mod casts;
@@ -31,6 +32,7 @@ mod names;
 mod numbered;
 mod operands;
 mod pairs;
+mod passing;
 mod paths;
 mod places;
 mod predeclared;
@@ -44,6 +46,7 @@ mod values;
 mod wanted;
 
 pub use applying::{applied, applied_with};
+pub use argument_lists::{arguments, arguments_for};
 pub use base::base_thing;
 pub use casts::{as_bits, cast, cast_to, integer_as, resized};
 pub use changes::{
@@ -69,6 +72,7 @@ pub use operands::{
     Operand, Placed, constant_number, core_of, retyped, scalar_of, type_of, varies_at, varying_or,
 };
 pub use pairs::{Pair, each, with_bits};
+pub use passing::{TypeTest, directed, object_passed, passed_in, path_in, path_passed};
 pub use paths::{path_of, step_from, step_on, validity_of, value_type};
 pub use places::Places;
 pub use predeclared::core_scope;

@@ -34,7 +34,7 @@ fn same_opaque(a: Object, u: SourceType) -> bool
     }
 }
 
-fn same_object(a: Object, b: Object) -> bool
+pub(crate) fn same_object(a: Object, b: Object) -> bool
     ensures { result ≡ same_object_by_rules a b }
 {
     match a {

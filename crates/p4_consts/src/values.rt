@@ -30,7 +30,7 @@ pub fn value_of(faults: &mut Faults, judged: Judged) -> Option<Placed>
 }
 
 /// The code of what stands where it cannot: a list is left out, and anything else has no type that fits.
-fn misfit_code(thing: &Thing) -> Code
+pub(crate) fn misfit_code(thing: &Thing) -> Code
     ensures { result ≡ code_of_misfit (thing_of thing.now) }
 {
     match thing {
