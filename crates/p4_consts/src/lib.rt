@@ -38,6 +38,7 @@ mod places;
 mod predeclared;
 mod scopes;
 mod sizes;
+mod slices;
 mod things;
 mod types;
 mod unary;
@@ -78,6 +79,7 @@ pub use places::Places;
 pub use predeclared::core_scope;
 pub use scopes::{Depths, Scope};
 pub use sizes::{LARGEST_STACK, named_number, named_type, sized_number, stack_of};
+pub use slices::sliced;
 pub use things::{Judged, Method, Thing};
 pub use types::{
     bit_width, header_bits, is_run_time, is_scalar, is_sized, may_be_in_header, same_type,
