@@ -10,3 +10,4 @@ pub mod CastLaws
 pub mod LiteralLaws
 pub mod ArithmeticLaws
 pub mod UnaryLaws
+pub mod ShiftLaws

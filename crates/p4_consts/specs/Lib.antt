@@ -8,4 +8,5 @@ pub mod Meanings
 pub mod Numbered
 pub mod Pairs
 pub mod Scopes
+pub mod Shifts
 pub mod Things

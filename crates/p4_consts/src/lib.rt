@@ -32,6 +32,7 @@ mod paths;
 mod places;
 mod predeclared;
 mod scopes;
+mod shifts;
 mod things;
 mod types;
 mod unary;
@@ -65,6 +66,7 @@ pub use paths::{path_of, step_from, step_on, validity_of, value_type};
 pub use places::Places;
 pub use predeclared::core_scope;
 pub use scopes::{Depths, Scope};
+pub use shifts::shift;
 pub use things::{Judged, Method, Thing};
 pub use types::{
     bit_width, header_bits, is_run_time, is_scalar, is_sized, may_be_in_header, same_type,
