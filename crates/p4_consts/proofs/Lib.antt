@@ -1,4 +1,6 @@
 pub mod AppliedLaws
+pub mod ConcatenationLaws
+pub mod GuardLaws
 pub mod NotedLaws
 pub mod NameLaws
 pub mod NumberedLaws

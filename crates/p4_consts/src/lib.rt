@@ -14,8 +14,10 @@
 
 mod applying;
 mod arithmetic;
+mod booleans;
 mod casts;
 mod changes;
+mod concatenations;
 mod constants;
 mod faults;
 mod folding;
@@ -40,11 +42,13 @@ mod values;
 mod wanted;
 
 pub use applying::{applied, applied_with};
+pub use booleans::logic;
 pub use casts::{as_bits, cast, cast_to, integer_as, resized};
 pub use changes::{
     leave, with_callable_depth, with_child_depth, with_name, with_shapes, with_table_depth,
     with_top_name, within,
 };
+pub use concatenations::concatenation;
 pub use constants::{Constant, is_width};
 pub use faults::Faults;
 pub use folding::{
