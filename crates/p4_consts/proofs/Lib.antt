@@ -1,4 +1,6 @@
 pub mod AppliedLaws
+pub mod ConcatenationLaws
+pub mod GuardLaws
 pub mod NotedLaws
 pub mod NameLaws
 pub mod NumberedLaws
@@ -16,3 +18,4 @@ pub mod SizeLaws
 pub mod PlaceLaws
 pub mod UnifyLaws
 pub mod ChoiceLaws
+pub mod ShiftLaws
