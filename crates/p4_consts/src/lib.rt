@@ -14,6 +14,7 @@
 
 mod argument_lists;
 mod arithmetic;
+mod callees;
 mod casts;
 mod changes;
 mod constants;
@@ -33,6 +34,7 @@ mod paths;
 mod places;
 mod predeclared;
 mod scopes;
+mod standing;
 mod things;
 mod types;
 mod unary;
@@ -40,6 +42,7 @@ mod values;
 mod wanted;
 
 pub use argument_lists::{arguments, arguments_for};
+pub use callees::action_call;
 pub use casts::{as_bits, cast, cast_to, integer_as, resized};
 pub use changes::{
     leave, with_callable_depth, with_child_depth, with_name, with_shapes, with_table_depth,
