@@ -1,3 +1,4 @@
+pub mod MemberLaws
 pub mod NotedLaws
 pub mod NameLaws
 pub mod NumberedLaws

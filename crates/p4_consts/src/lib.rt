@@ -4,7 +4,7 @@
 //!
 //! It has the integers and constants of compile time and the values of operators on them, operands
 //! and casts, scopes with what names stand for in them and how they change, the scope before a source,
-//! literals, and the members of names that have no value. It has no rule of operators, calls and whole expressions
+//! literals, and what stands behind a `.`. It has no rule of operators, calls and whole expressions
 //! yet, and no walk over the tree. Nothing stands on it yet.
 //!
 //! A judgement gives what a part stands for, where it is right, and notes its faults, of which the
@@ -22,6 +22,7 @@ mod found;
 mod integer;
 mod literals;
 mod meanings;
+mod members;
 mod named;
 mod names;
 mod numbered;
@@ -34,6 +35,7 @@ mod scopes;
 mod things;
 mod types;
 mod unary;
+mod value_members;
 mod values;
 mod wanted;
 
@@ -52,6 +54,7 @@ pub use found::{as_type, depth_of, meaning_of, once, shapes_of, type_meaning};
 pub use integer::Integer;
 pub use literals::{literal, number_of};
 pub use meanings::Meaning;
+pub use members::member_of;
 pub use named::{lookahead_of, thing_of};
 pub use names::Names;
 pub use numbered::Numbered;
