@@ -1,6 +1,7 @@
 pub mod AppliedLaws
 pub mod ConcatenationLaws
 pub mod GuardLaws
+pub mod MemberLaws
 pub mod NotedLaws
 pub mod NameLaws
 pub mod NumberedLaws

@@ -4,7 +4,7 @@
 //!
 //! It has the integers and constants of compile time and the values of operators on them, operands
 //! and casts, scopes with what names stand for in them and how they change, the scope before a source,
-//! literals, and the members of names that have no value. It has no rule of operators, calls and whole expressions
+//! literals, and what stands behind a `.`. It has no rule of operators, calls and whole expressions
 //! yet, and no walk over the tree. Nothing stands on it yet.
 //!
 //! A judgement gives what a part stands for, where it is right, and notes its faults, of which the
@@ -30,6 +30,7 @@ mod indexes;
 mod integer;
 mod literals;
 mod meanings;
+mod members;
 mod named;
 mod names;
 mod numbered;
@@ -48,6 +49,7 @@ mod things;
 mod types;
 mod unary;
 mod unify;
+mod value_members;
 mod values;
 mod wanted;
 
@@ -112,7 +114,10 @@ pub use integer::Integer;
 pub use literals::literal;
 pub use literals::number_of;
 pub use meanings::Meaning;
+pub use members::member_of;
 pub use named::lookahead_of;
+pub use named::lookahead_of;
+pub use named::thing_of;
 pub use named::thing_of;
 pub use names::Names;
 pub use numbered::Numbered;
