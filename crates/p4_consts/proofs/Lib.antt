@@ -13,3 +13,5 @@ pub mod LiteralLaws
 pub mod ArithmeticLaws
 pub mod UnaryLaws
 pub mod ShiftLaws
+pub mod UnifyLaws
+pub mod ChoiceLaws

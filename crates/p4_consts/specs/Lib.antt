@@ -1,4 +1,5 @@
 pub mod Applied
+pub mod Choices
 pub mod Concatenations
 pub mod Noted
 pub mod Fits

@@ -17,6 +17,7 @@ mod arithmetic;
 mod booleans;
 mod casts;
 mod changes;
+mod choices;
 mod concatenations;
 mod constants;
 mod faults;
@@ -38,6 +39,7 @@ mod shifts;
 mod things;
 mod types;
 mod unary;
+mod unify;
 mod values;
 mod wanted;
 
@@ -48,6 +50,7 @@ pub use changes::{
     leave, with_callable_depth, with_child_depth, with_name, with_shapes, with_table_depth,
     with_top_name, within,
 };
+pub use choices::choice;
 pub use concatenations::concatenation;
 pub use constants::{Constant, is_width};
 pub use faults::Faults;
@@ -76,6 +79,7 @@ pub use types::{
     bit_width, header_bits, is_run_time, is_scalar, is_sized, may_be_in_header, same_type,
 };
 pub use unary::unary_of;
+pub use unify::unified;
 pub use values::value_of;
 pub use wanted::{
     Wanted, has_fields, is_boolean, is_comparable, is_integer, is_number, is_of_bits,
