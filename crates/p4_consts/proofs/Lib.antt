@@ -1,4 +1,6 @@
 pub mod AppliedLaws
+pub mod ConcatenationLaws
+pub mod GuardLaws
 pub mod NotedLaws
 pub mod NameLaws
 pub mod NumberedLaws
@@ -12,3 +14,4 @@ pub mod ArithmeticLaws
 pub mod UnaryLaws
 pub mod UnifyLaws
 pub mod ChoiceLaws
+pub mod ShiftLaws

@@ -1,5 +1,6 @@
 pub mod Applied
 pub mod Choices
+pub mod Concatenations
 pub mod Noted
 pub mod Fits
 pub mod Integers
@@ -9,4 +10,5 @@ pub mod Meanings
 pub mod Numbered
 pub mod Pairs
 pub mod Scopes
+pub mod Shifts
 pub mod Things

@@ -14,9 +14,11 @@
 
 mod applying;
 mod arithmetic;
+mod booleans;
 mod casts;
 mod changes;
 mod choices;
+mod concatenations;
 mod constants;
 mod faults;
 mod folding;
@@ -33,6 +35,7 @@ mod paths;
 mod places;
 mod predeclared;
 mod scopes;
+mod shifts;
 mod things;
 mod types;
 mod unary;
@@ -41,12 +44,14 @@ mod values;
 mod wanted;
 
 pub use applying::{applied, applied_with};
+pub use booleans::logic;
 pub use casts::{as_bits, cast, cast_to, integer_as, resized};
 pub use changes::{
     leave, with_callable_depth, with_child_depth, with_name, with_shapes, with_table_depth,
     with_top_name, within,
 };
 pub use choices::choice;
+pub use concatenations::concatenation;
 pub use constants::{Constant, is_width};
 pub use faults::Faults;
 pub use folding::{
@@ -68,6 +73,7 @@ pub use paths::{path_of, step_from, step_on, validity_of, value_type};
 pub use places::Places;
 pub use predeclared::core_scope;
 pub use scopes::{Depths, Scope};
+pub use shifts::shift;
 pub use things::{Judged, Method, Thing};
 pub use types::{
     bit_width, header_bits, is_run_time, is_scalar, is_sized, may_be_in_header, same_type,
