@@ -12,6 +12,6 @@ pub mod CastLaws
 pub mod LiteralLaws
 pub mod ArithmeticLaws
 pub mod UnaryLaws
-pub mod ShiftLaws
 pub mod UnifyLaws
 pub mod ChoiceLaws
+pub mod ShiftLaws
