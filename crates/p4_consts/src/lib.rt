@@ -77,12 +77,6 @@ pub use choices::choice;
 pub use concatenations::concatenation;
 pub use constants::Constant;
 pub use constants::is_width;
-pub use casts::{as_bits, cast, cast_to, integer_as, resized};
-pub use changes::{
-    leave, with_callable_depth, with_child_depth, with_name, with_shapes, with_table_depth,
-    with_top_name, within,
-};
-pub use constants::{Constant, is_width};
 pub use faults::Faults;
 pub use folding::constant_value;
 pub use folding::core_operator;
