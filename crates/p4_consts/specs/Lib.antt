@@ -6,5 +6,6 @@ pub mod Predeclared
 pub mod Meanings
 pub mod Numbered
 pub mod Pairs
+pub mod Rows
 pub mod Scopes
 pub mod Things
