@@ -4,9 +4,11 @@ pub mod NumberedLaws
 pub mod PredeclaredLaws
 pub mod PathLaws
 pub mod IntegerLaws
+pub mod RowLaws
 pub mod ScopeLaws
 pub mod CastLaws
 pub mod LiteralLaws
 pub mod ArithmeticLaws
+pub mod TreeLaws
 pub mod UnaryLaws
 pub mod SizeLaws

@@ -7,5 +7,6 @@ pub mod Meanings
 pub mod Numbered
 pub mod Pairs
 pub mod Rows
+pub mod Runs
 pub mod Scopes
 pub mod Things

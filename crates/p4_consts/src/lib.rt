@@ -35,6 +35,7 @@ mod paths;
 mod places;
 mod predeclared;
 mod rows;
+mod runs;
 mod scopes;
 mod simple;
 mod sizes;
