@@ -10,10 +10,12 @@ pub mod ArgumentLaws
 pub mod PartLaws
 pub mod PathLaws
 pub mod IntegerLaws
+pub mod RowLaws
 pub mod ScopeLaws
 pub mod CastLaws
 pub mod LiteralLaws
 pub mod ArithmeticLaws
+pub mod TreeLaws
 pub mod UnaryLaws
 pub mod SizeLaws
 pub mod PlaceLaws

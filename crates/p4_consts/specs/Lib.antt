@@ -10,6 +10,8 @@ pub mod Passing
 pub mod Meanings
 pub mod Numbered
 pub mod Pairs
+pub mod Rows
+pub mod Runs
 pub mod Scopes
 pub mod Shifts
 pub mod Things

@@ -1,14 +1,15 @@
 //! The values of what is judged.
 ghost use Rattle.std.specs.Prelude.{◌≡◌, option_map};
+ghost use Rattle.p4_rules.specs.Faults.{told};
 ghost use Rattle.p4_rules.specs.Things.{value_of as value_by_rules};
 ghost use Rattle.p4_consts.specs.Noted.{noted, right_of};
 ghost use Rattle.p4_consts.specs.Operands.{placed_of};
-ghost use Rattle.p4_consts.specs.Things.{judged_of, thing_of, code_of_misfit};
+ghost use Rattle.p4_consts.specs.Things.{judged_of, thing_of, told_value, code_of_misfit};
 
 use crate::faults::Faults;
 use crate::operands::Placed;
 use crate::things::{Judged, Thing};
-use p4_rules::Pass;
+use p4_rules::{Fault, Pass};
 use tg_base::Code;
 
 /// The value of what is judged, where it is one.
@@ -25,6 +26,25 @@ pub fn value_of(faults: &mut Faults, judged: Judged) -> Option<Placed>
             drop(other);
             faults.note(Pass::Checking, code, place);
             None
+        }
+    }
+}
+
+/// The value of what is judged, or why it has none.
+pub(crate) fn told_of(judged: Judged) -> Result<Placed, Fault>
+    ensures { told_value result ≡ told (value_by_rules (judged_of judged)) }
+{
+    let Judged { thing, place } = judged;
+    match thing {
+        Thing::Value(operand) => Ok(Placed { operand, place }),
+        other => {
+            let code = misfit_code(&other);
+            drop(other);
+            Err(Fault {
+                pass: Pass::Checking,
+                code,
+                place,
+            })
         }
     }
 }
