@@ -42,7 +42,7 @@ no_overrun port packet =
     ]
 
 -- what is sent is the packet that came in
-sent_is : (port q : ℕ) (packet bytes : List ℕ) → outcome.Sent q bytes ≡ outcome_at port packet → bytes ≡ packet
+pub sent_is : (port q : ℕ) (packet bytes : List ℕ) → outcome.Sent q bytes ≡ outcome_at port packet → bytes ≡ packet
 sent_is port q packet bytes =
     elim (port == DROP_PORT) as (λ b. outcome.Sent q bytes ≡ (if b then outcome.Dropped else outcome.Sent port packet) → bytes ≡ packet) [
       | true ↦ λ e. cc

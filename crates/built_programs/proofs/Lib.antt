@@ -1,0 +1,4 @@
+pub mod Digits
+pub mod OneTest
+pub mod Rows
+pub mod TypedSkeletonFits
