@@ -15,3 +15,4 @@ pub mod UnaryLaws
 pub mod UnifyLaws
 pub mod ChoiceLaws
 pub mod ShiftLaws
+pub mod OperatorLaws

@@ -9,6 +9,7 @@ pub mod Predeclared
 pub mod Meanings
 pub mod Numbered
 pub mod Pairs
+pub mod Rows
 pub mod Scopes
 pub mod Shifts
 pub mod Things

@@ -4,7 +4,7 @@
 //!
 //! It has the integers and constants of compile time and the values of operators on them, operands
 //! and casts, scopes with what names stand for in them and how they change, the scope before a source,
-//! literals, and the members of names that have no value. It has no rule of operators, calls and whole expressions
+//! literals, the members of names that have no value, and the operators. It has no rule of calls and whole expressions
 //! yet, and no walk over the tree. Nothing stands on it yet.
 //!
 //! A judgement gives what a part stands for, where it is right, and notes its faults, of which the
@@ -15,9 +15,11 @@
 mod applying;
 mod arithmetic;
 mod booleans;
+mod calculations;
 mod casts;
 mod changes;
 mod choices;
+mod comparisons;
 mod concatenations;
 mod constants;
 mod faults;
@@ -30,6 +32,7 @@ mod named;
 mod names;
 mod numbered;
 mod operands;
+mod operators;
 mod pairs;
 mod paths;
 mod places;
@@ -51,6 +54,7 @@ pub use changes::{
     with_top_name, within,
 };
 pub use choices::choice;
+pub use comparisons::{equality, order};
 pub use concatenations::concatenation;
 pub use constants::{Constant, is_width};
 pub use faults::Faults;
@@ -68,7 +72,8 @@ pub use numbered::Numbered;
 pub use operands::{
     Operand, Placed, constant_number, core_of, retyped, scalar_of, type_of, varies_at, varying_or,
 };
-pub use pairs::{Pair, each, with_bits};
+pub use operators::{Row, binary};
+pub use pairs::{Pair, each, whole_numbers, with_bits};
 pub use paths::{path_of, step_from, step_on, validity_of, value_type};
 pub use places::Places;
 pub use predeclared::core_scope;
@@ -79,7 +84,7 @@ pub use types::{
     bit_width, header_bits, is_run_time, is_scalar, is_sized, may_be_in_header, same_type,
 };
 pub use unary::unary_of;
-pub use unify::unified;
+pub use unify::{unified, unified_each, unified_numbers};
 pub use values::value_of;
 pub use wanted::{
     Wanted, has_fields, is_boolean, is_comparable, is_integer, is_number, is_of_bits,
