@@ -22,3 +22,4 @@ pub mod PlaceLaws
 pub mod UnifyLaws
 pub mod ChoiceLaws
 pub mod ShiftLaws
+pub mod OperatorLaws

@@ -4,10 +4,12 @@ use Rattle.p4_rules.specs.Faults.{Checked, and_then}
 use Rattle.p4_rules.specs.Scopes.{Scope}
 use Rattle.p4_rules.specs.Operands as operands
 use Rattle.p4_rules.specs.Operators as rules
+use Rattle.p4_consts.specs.declared.integer.Integer.{Integer}
 use Rattle.p4_consts.specs.declared.pairs.Pair.{Pair}
 use Rattle.p4_consts.specs.declared.wanted.Wanted.{Wanted}
 use Rattle.p4_consts.specs.declared.wanted.Wanted.TheVariants as wanted
 use Rattle.p4_consts.specs.declared.operands.Operand.{Operand}
+use Rattle.p4_consts.specs.Integers.{integer_of}
 use Rattle.p4_consts.specs.Operands.{operand_of, placed_of}
 
 abbrev pub pair_of : Pair → rules.Pair
@@ -31,6 +33,10 @@ fits_of wanted.Comparable = rules.is_comparable
 -- both in one type, where each alone is what its place wants
 abbrev pub unified_each : Scope → (operands.Operand → Bool) → rules.Pair → Checked (operands.Operand × operands.Operand)
 unified_each Γ fits p = and_then (rules.each fits p) (rules.unified Γ)
+
+-- the integers of two
+abbrev pub integers_of : (Integer × Integer) → (ℤ × ℤ)
+integers_of e = (integer_of e.0, integer_of e.1)
 
 -- the numbers of two compile-time integers
 abbrev pub whole_numbers : operands.Operand → operands.Operand → Option (ℤ × ℤ)

@@ -5,6 +5,7 @@
 //! It has the integers and constants of compile time and the values of operators on them, operands
 //! and casts, scopes with what names stand for in them and how they change, the scope before a source,
 //! literals, and what stands behind a `.`. It has no rule of operators, calls and whole expressions
+//! literals, the members of names that have no value, and the operators. It has no rule of calls and whole expressions
 //! yet, and no walk over the tree. Nothing stands on it yet.
 //!
 //! A judgement gives what a part stands for, where it is right, and notes its faults, of which the
@@ -18,9 +19,11 @@ mod arithmetic;
 mod base;
 mod booleans;
 mod callees;
+mod calculations;
 mod casts;
 mod changes;
 mod choices;
+mod comparisons;
 mod concatenations;
 mod constants;
 mod faults;
@@ -38,6 +41,7 @@ mod names;
 mod numbered;
 mod operands;
 mod operated;
+mod operators;
 mod pairs;
 mod passing;
 mod paths;
@@ -80,6 +84,7 @@ pub use changes::with_table_depth;
 pub use changes::with_top_name;
 pub use changes::within;
 pub use choices::choice;
+pub use comparisons::{equality, order};
 pub use concatenations::concatenation;
 pub use constants::Constant;
 pub use constants::is_width;
@@ -131,6 +136,12 @@ pub use paths::step_from;
 pub use paths::step_on;
 pub use paths::validity_of;
 pub use paths::value_type;
+pub use operands::{
+    Operand, Placed, constant_number, core_of, retyped, scalar_of, type_of, varies_at, varying_or,
+};
+pub use operators::{Row, binary};
+pub use pairs::{Pair, each, whole_numbers, with_bits};
+pub use paths::{path_of, step_from, step_on, validity_of, value_type};
 pub use places::Places;
 pub use predeclared::core_scope;
 pub use scopes::Depths;
@@ -153,7 +164,7 @@ pub use types::is_sized;
 pub use types::may_be_in_header;
 pub use types::same_type;
 pub use unary::unary_of;
-pub use unify::unified;
+pub use unify::{unified, unified_each, unified_numbers};
 pub use values::value_of;
 pub use wanted::Wanted;
 pub use wanted::has_fields;

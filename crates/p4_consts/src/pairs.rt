@@ -5,10 +5,11 @@ ghost use Rattle.p4_rules.specs.Casts.{as_bits as bits_by_rules};
 ghost use Rattle.p4_rules.specs.Operators.{each as each_by_rules, with_bits as with_bits_by_rules};
 ghost use Rattle.p4_consts.specs.Noted.{noted, right_of};
 ghost use Rattle.p4_consts.specs.Operands.{operand_of, placed_of};
-ghost use Rattle.p4_consts.specs.Pairs.{pair_of, fits_of};
+ghost use Rattle.p4_consts.specs.Pairs.{pair_of, integers_of, fits_of, whole_numbers as whole_numbers_by_rules};
 
 use crate::casts::as_bits;
 use crate::faults::Faults;
+use crate::integer::Integer;
 use crate::operands::{Operand, Placed};
 use crate::wanted::{Wanted, is_boolean, is_comparable, is_integer, is_number, is_of_bits};
 use p4_rules::Pass;
@@ -80,4 +81,24 @@ fn placed_bits(alloc: Global, placed: Placed) -> Result<Placed, AllocError>
         operand: as_bits(alloc, operand)?,
         place,
     })
+}
+
+/// The numbers of two compile-time integers.
+pub fn whole_numbers(one: &Operand, other: &Operand) -> Option<(Integer, Integer)>
+    ensures { option_map integers_of result
+        ≡ whole_numbers_by_rules (operand_of one.now) (operand_of other.now) }
+{
+    match one {
+        Operand::Whole(a) => match other {
+            Operand::Whole(b) => Some((*a, *b)),
+            Operand::Fixed(_) => None,
+            Operand::Stored(_, _, _, _) => None,
+            Operand::Sliced(_, _, _, _) => None,
+            Operand::Computed(_, _, _) => None,
+        },
+        Operand::Fixed(_) => None,
+        Operand::Stored(_, _, _, _) => None,
+        Operand::Sliced(_, _, _, _) => None,
+        Operand::Computed(_, _, _) => None,
+    }
 }

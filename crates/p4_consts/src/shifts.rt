@@ -114,7 +114,12 @@ fn integer_shift(
 }
 
 /// The integer that an operator gives, where this profile keeps it, else a fault of constants.
-fn kept(pass: Pass, faults: &mut Faults, place: Span, number: Option<Integer>) -> Option<Operand>
+pub fn kept(
+    pass: Pass,
+    faults: &mut Faults,
+    place: Span,
+    number: Option<Integer>,
+) -> Option<Operand>
     ensures value { (z : ℤ) → option_map integer_of number ≡ kept_or_none z →
         option_map operand_of result
         ≡ right_of (made_of (λ k. Whole k) (kept_by_rules pass place z)) }

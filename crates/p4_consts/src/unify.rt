@@ -5,7 +5,7 @@ ghost use Rattle.p4_rules.specs.declared.types.SourceType.TheVariants.{Integer a
 ghost use Rattle.tg_base.specs.declared.place.Code.TheVariants.{Typing};
 ghost use Rattle.p4_rules.specs.Faults.{provided as provided_by_rules};
 ghost use Rattle.p4_rules.specs.Operands.{type_of as type_by_rules};
-ghost use Rattle.p4_rules.specs.Operators.{unified as unified_by_rules, with_bits as with_bits_by_rules};
+ghost use Rattle.p4_rules.specs.Operators.{is_number, unified as unified_by_rules, with_bits as with_bits_by_rules};
 ghost use Rattle.p4_rules.specs.Scopes.{Scope as RulesScope};
 ghost use Rattle.p4_consts.specs.declared.scopes.Scope.{Scope as AScope};
 ghost use Rattle.p4_consts.specs.Noted.{noted, right_of};
@@ -40,6 +40,24 @@ pub fn unified_each(
         Some(fitting) => unified(alloc, pass, faults, fitting),
         None => Ok(None),
     }
+}
+
+/// Both operands in one type, where each alone is a number. Enumerations over bits are cast to these.
+pub fn unified_numbers(
+    alloc: Global,
+    pass: Pass,
+    faults: &mut Faults,
+    pair: Pair,
+) -> Result<Option<(Operand, Operand)>, AllocError>
+    ensures value { (scope : AScope) → IfOk result (λ v. option_map operands_of v
+        ≡ right_of (unified_each_by_rules (scope_in pass scope) is_number
+        (with_bits_by_rules (scope_in pass scope) (pair_of pair)))) }
+    ensures faults { (scope : AScope) → OnOk result (faults.new.first
+        ≡ noted faults.old.first (unified_each_by_rules (scope_in pass scope) is_number
+        (with_bits_by_rules (scope_in pass scope) (pair_of pair)))) }
+{
+    let bits = with_bits(alloc, pair)?;
+    unified_each(alloc, pass, faults, Wanted::Number, bits)
 }
 
 /// Both operands in one type. A compile-time integer takes the other's sized type, and so does an enumeration over bits beside

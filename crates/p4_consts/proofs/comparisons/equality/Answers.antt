@@ -1,0 +1,46 @@
+use Rattle.std.proofs.Common.{◌≡◌, ap, sym, ◌∙◌, subst}
+use Rattle.std.specs.Prelude.{IfOk, OnOk, option_map}
+use Rattle.p4_rules.specs.Operators.{is_comparable, equality_on}
+use Rattle.p4_consts.proofs.OperatorLaws.{unified_each_right, unified_each_noted, unified_each_wrong, equality_taken}
+use Rattle.p4_consts.specs.Noted.{noted, right_of}
+use Rattle.p4_consts.specs.Operands.{operand_of}
+use Rattle.p4_consts.specs.Pairs.{pair_of, operands_of}
+use Rattle.p4_consts.specs.Scopes.{scope_in}
+use Rattle.p4_consts.proofs.comparisons.equality.Goals as goal
+
+pub returns-in-Some-clause-value : goal.returns-in-Some-clause-value
+returns-in-Some-clause-value c =
+    let scope = scope_in c.args.pass c.args.scope.now in
+    let other = equality_taken scope c.args.goes_on c.args.sign (pair_of c.args.pair) (sym c.are_alike_with_fields.ensures ∙ c.if-are_alike_with_fields.false) in
+    let found = sym (c.in_ok-one.ensures.value c.args.scope.now) ∙ ap (option_map operands_of) c.in-Some.is in
+    subst (λ q. IfOk c.equality_on.result (λ o. option_map operand_of o ≡ right_of q))
+    (sym (other ∙ unified_each_right scope is_comparable (pair_of c.args.pair) (equality_on scope c.args.goes_on c.args.sign)
+    (operand_of c.in-Some.one, operand_of c.in-Some.other) found))
+    (c.equality_on.ensures.value c.args.pass)
+
+pub returns-in-Some-clause-faults : goal.returns-in-Some-clause-faults
+returns-in-Some-clause-faults c =
+    let scope = scope_in c.args.pass c.args.scope.now in
+    let other = equality_taken scope c.args.goes_on c.args.sign (pair_of c.args.pair) (sym c.are_alike_with_fields.ensures ∙ c.if-are_alike_with_fields.false) in
+    let found = sym (c.in_ok-one.ensures.value c.args.scope.now) ∙ ap (option_map operands_of) c.in-Some.is in
+    let whole = equality_on scope c.args.goes_on c.args.sign in
+    subst (λ first. OnOk c.equality_on.result (c.equality_on.new.faults.first ≡ first))
+    (ap (λ first. noted first (whole c.args.pair.place (operand_of c.in-Some.one, operand_of c.in-Some.other))) (c.in_ok-one.ensures.faults c.args.scope.now)
+    ∙ sym (ap (noted c.args.faults.now.first) other ∙ unified_each_noted scope is_comparable (pair_of c.args.pair) whole
+    (operand_of c.in-Some.one, operand_of c.in-Some.other) c.args.faults.now.first found))
+    (c.equality_on.ensures.faults c.args.pass)
+
+pub returns-in-None-clause-value : goal.returns-in-None-clause-value
+returns-in-None-clause-value c =
+    let scope = scope_in c.args.pass c.args.scope.now in
+    let other = equality_taken scope c.args.goes_on c.args.sign (pair_of c.args.pair) (sym c.are_alike_with_fields.ensures ∙ c.if-are_alike_with_fields.false) in
+    let none = sym (c.in_ok-one.ensures.value c.args.scope.now) ∙ ap (option_map operands_of) c.in-None.is in
+    sym (ap right_of other ∙ (unified_each_wrong scope is_comparable (pair_of c.args.pair) (equality_on scope c.args.goes_on c.args.sign) c.args.faults.now.first none).0)
+
+pub returns-in-None-clause-faults : goal.returns-in-None-clause-faults
+returns-in-None-clause-faults c =
+    let scope = scope_in c.args.pass c.args.scope.now in
+    let other = equality_taken scope c.args.goes_on c.args.sign (pair_of c.args.pair) (sym c.are_alike_with_fields.ensures ∙ c.if-are_alike_with_fields.false) in
+    let none = sym (c.in_ok-one.ensures.value c.args.scope.now) ∙ ap (option_map operands_of) c.in-None.is in
+    c.in_ok-one.ensures.faults c.args.scope.now
+    ∙ sym (ap (noted c.args.faults.now.first) other ∙ (unified_each_wrong scope is_comparable (pair_of c.args.pair) (equality_on scope c.args.goes_on c.args.sign) c.args.faults.now.first none).1)
