@@ -10,6 +10,7 @@ pub mod Passing
 pub mod Meanings
 pub mod Numbered
 pub mod Pairs
+pub mod OperatorRows
 pub mod Rows
 pub mod Runs
 pub mod Scopes

@@ -2,11 +2,12 @@
 //! `p4_rules`. A judgement has the name of its rule, and its contract says that it gives the rule's
 //! value and notes the rule's faults. Want of memory is an error, of which nothing is said.
 //!
-//! It has the integers and constants of compile time and the values of operators on them, operands
-//! and casts, scopes with what names stand for in them and how they change, the scope before a source,
-//! literals, and what stands behind a `.`. It has no rule of operators, calls and whole expressions
-//! literals, the members of names that have no value, and the operators. It has no rule of calls and whole expressions
-//! yet, and no walk over the tree. Nothing stands on it yet.
+//! It has the integers and constants of compile time, operands and casts, operators before one
+//! operand, shifts, concatenation, the operators on `bool` and the conditional operator, scopes
+//! with what names stand for in them and how they change, the scope before a source, literals, what
+//! stands behind a `.`, elements of stacks and slices, sizes and types by name, what is passed for
+//! parameters, and the call of an action. Other operators between two operands, calls of methods
+//! and functions, whole expressions and the walk over the tree are to come. Nothing stands on it yet.
 //!
 //! A judgement gives what a part stands for, where it is right, and notes its faults, of which the
 //! first is kept. Parts side by side are all judged, so that the fault that decides is found
@@ -18,8 +19,8 @@ mod argument_lists;
 mod arithmetic;
 mod base;
 mod booleans;
-mod callees;
 mod calculations;
+mod callees;
 mod casts;
 mod changes;
 mod choices;
@@ -84,7 +85,8 @@ pub use changes::with_table_depth;
 pub use changes::with_top_name;
 pub use changes::within;
 pub use choices::choice;
-pub use comparisons::{equality, order};
+pub use comparisons::equality;
+pub use comparisons::order;
 pub use concatenations::concatenation;
 pub use constants::Constant;
 pub use constants::is_width;
@@ -122,8 +124,11 @@ pub use operands::scalar_of;
 pub use operands::type_of;
 pub use operands::varies_at;
 pub use operands::varying_or;
+pub use operators::Row;
+pub use operators::binary;
 pub use pairs::Pair;
 pub use pairs::each;
+pub use pairs::whole_numbers;
 pub use pairs::with_bits;
 pub use passing::TypeTest;
 pub use passing::directed;
@@ -136,12 +141,6 @@ pub use paths::step_from;
 pub use paths::step_on;
 pub use paths::validity_of;
 pub use paths::value_type;
-pub use operands::{
-    Operand, Placed, constant_number, core_of, retyped, scalar_of, type_of, varies_at, varying_or,
-};
-pub use operators::{Row, binary};
-pub use pairs::{Pair, each, whole_numbers, with_bits};
-pub use paths::{path_of, step_from, step_on, validity_of, value_type};
 pub use places::Places;
 pub use predeclared::core_scope;
 pub use scopes::Depths;
@@ -164,7 +163,9 @@ pub use types::is_sized;
 pub use types::may_be_in_header;
 pub use types::same_type;
 pub use unary::unary_of;
-pub use unify::{unified, unified_each, unified_numbers};
+pub use unify::unified;
+pub use unify::unified_each;
+pub use unify::unified_numbers;
 pub use values::value_of;
 pub use wanted::Wanted;
 pub use wanted::has_fields;

@@ -4,7 +4,7 @@ ghost use Rattle.p4_rules.specs.Operators.{binary as binary_by_rules, binary_in 
 ghost use Rattle.p4_consts.specs.Noted.{noted, right_of};
 ghost use Rattle.p4_consts.specs.Operands.{operand_of};
 ghost use Rattle.p4_consts.specs.Pairs.{pair_of};
-ghost use Rattle.p4_consts.specs.Rows.{row_in};
+ghost use Rattle.p4_consts.specs.OperatorRows.{row_in};
 ghost use Rattle.p4_consts.specs.Scopes.{scope_in};
 
 use crate::booleans::logic;
