@@ -2,11 +2,12 @@
 //! `p4_rules`. A judgement has the name of its rule, and its contract says that it gives the rule's
 //! value and notes the rule's faults. Want of memory is an error, of which nothing is said.
 //!
-//! It has the integers and constants of compile time, operands and casts, the operators, scopes
+//! It has the integers and constants of compile time, operands and casts, operators before one
+//! operand, shifts, concatenation, the operators on `bool` and the conditional operator, scopes
 //! with what names stand for in them and how they change, the scope before a source, literals, what
 //! stands behind a `.`, elements of stacks and slices, sizes and types by name, what is passed for
-//! parameters, and the call of an action. Calls of methods and functions, and the walk over whole
-//! expressions, are to come. Nothing stands on it yet.
+//! parameters, and the call of an action. Other operators between two operands, calls of methods
+//! and functions, whole expressions and the walk over the tree are to come. Nothing stands on it yet.
 //!
 //! A judgement gives what a part stands for, where it is right, and notes its faults, of which the
 //! first is kept. Parts side by side are all judged, so that the fault that decides is found
