@@ -1,4 +1,0 @@
-pub mod Digits
-pub mod OneTest
-pub mod Rows
-pub mod TypedSkeletonFits
